@@ -9,6 +9,7 @@ use Rattle.std.specs.Options.{mapped}
 use Rattle.std.specs.declared.option.Option.{Option}
 use Rattle.std.specs.declared.option.Option.the-variants.{Some, None}
 use Rattle.std.specs.shelf.Lawful.{all-pass, distinct-test}
+use Rattle.std.specs.shelf.Lists.{kept-by}
 
 -- the list of door x; a number past the last door has the empty list
 abbrev pub row : List (List ℕ) → ℕ → List ℕ
@@ -46,3 +47,7 @@ pub record Lawful (ls : List (List ℕ)) : Type 0 where
 abbrev pub PlaceOf : List ℕ → ℕ → Option ℕ → Type 0
 PlaceOf l y (Some p) = (p < length l) × (getD l p 0 ≡ y) × ((k : ℕ) → k < p → getD l k 0 ≡ y → ⊥)
 PlaceOf l y None = (k : ℕ) → k < length l → getD l k 0 ≡ y → ⊥
+
+-- the list with door v taken off
+abbrev pub without : ℕ → List ℕ → List ℕ
+without v l = kept-by (λ y. not (eqb y v)) l
