@@ -1,0 +1,3 @@
+pub mod Ground
+pub mod Order
+pub mod Steps
