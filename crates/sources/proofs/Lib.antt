@@ -1,2 +1,2 @@
-pub mod Layers
 pub mod Asked
+pub mod Layers

@@ -1,10 +1,15 @@
 // Sources of preference lists, all behind the same three questions.
+mod baking;
+mod file;
 mod ground;
 mod reach;
 mod reading;
 mod source;
 mod table;
 
+pub use baking::bake;
+pub use file::FileAsSource;
+pub use file::FileSource;
 pub use ground::GroundAsSource;
 pub use ground::GroundSource;
 pub use reach::Reach;

@@ -1,0 +1,15 @@
+pub mod Weights
+pub mod Bytes
+pub mod Listed
+pub mod Questions
+pub mod Sealed
+pub mod Headers
+pub mod Followers
+pub mod DoorBlocks
+pub mod Bakings
+pub mod Accepted
+pub mod Judging
+pub mod Writing
+pub mod Reading
+pub mod Searches
+pub mod BakeLoop

@@ -1,0 +1,5 @@
+pub mod Blocks
+pub mod Findings
+pub mod Kinds
+pub mod Laws
+pub mod Verdicts
