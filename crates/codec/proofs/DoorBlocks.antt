@@ -3,12 +3,12 @@ use Prim.Native.Nat.{ℕ, zero, suc, _+_, _-_, _<_, _≤_}
 use lib.Dec.{eqb, ltb}
 use lib.ListN.{length, getD, take, drop}
 use mathlib.Core.Bool.{Bool, true, false}
-use mathlib.Core.List.{List, [], _∷_, _++_}
+use mathlib.Core.List.{List, _∷_}
 use mathlib.Core.Logic.{⊎-elim}
-use mathlib.Core.Path.{_≡_, refl, sym, ap, subst, _∙_}
+use mathlib.Core.Path.{_≡_, refl, sym, ap, _∙_}
 use native.Mathlib.Omega.{arith}
 use Rattle.std.specs.Holes.{between}
-use Rattle.std.specs.declared.option.Option.the-variants.{Some, None}
+use Rattle.std.specs.declared.option.Option.the-variants.{None}
 use Rattle.std.proofs.shelf.Lists.{length-take-le, length-drop, getD-take, getD-drop, getD-past, take-take, take-all, ext-getD}
 use Rattle.std.proofs.shelf.Edits.{length-between, getD-between}
 use Rattle.std.proofs.shelf.Tests.{cases-lt, eqb-true, eq-eqb, ltb-true, lt-ltb}
@@ -16,7 +16,7 @@ use Rattle.std.proofs.shelf.Ways.{tells}
 use Rattle.faults.specs.declared.Refusal.{Refusal}
 use Rattle.faults.specs.declared.Refusal.the-variants.{FixedByte, BadList}
 use Rattle.matching.specs.Lists.{LawfulList}
-use Rattle.codec.specs.Blocks.{sealed, rowBlock, listIn}
+use Rattle.codec.specs.Blocks.{rowBlock, listIn}
 use Rattle.codec.specs.Findings.{unless, rowFault, mayFollow, checked}
 use Rattle.codec.proofs.Sealed.{length-sealed, getD-sealed, sealed-checked, is-sealed}
 use Rattle.codec.proofs.Followers.{lawful-from-follows, follows-from-lawful}

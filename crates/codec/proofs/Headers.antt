@@ -1,17 +1,16 @@
 -- The header block: it has no fault, and a block without one is it.
-use Prim.Native.Nat.{ℕ, zero, suc, _+_, _<_, _≤_}
-use lib.Dec.{eqb, leb}
+use Prim.Native.Nat.{ℕ, suc, _+_, _<_, _≤_}
 use lib.ListN.{length, getD}
 use mathlib.Core.Bool.{true}
 use mathlib.Core.List.{List, [], _∷_, _++_}
 use mathlib.Core.Logic.{⊎-elim}
-use mathlib.Core.Path.{_≡_, refl, sym, ap, _∙_}
+use mathlib.Core.Path.{_≡_, sym, ap, _∙_}
 use native.Mathlib.Omega.{arith}
-use Rattle.std.specs.declared.option.Option.the-variants.{Some, None}
+use Rattle.std.specs.declared.option.Option.the-variants.{None}
 use Rattle.std.proofs.shelf.Lists.{getD-append-left, getD-past}
 use Rattle.std.proofs.shelf.Tests.{cases-eq, cases-lt}
 use Rattle.std.proofs.shelf.Ways.{tells}
-use Rattle.codec.specs.Blocks.{opening, sealed, header}
+use Rattle.codec.specs.Blocks.{opening, header}
 use Rattle.codec.specs.Findings.{headerFault, checked, blockFinding, Clean}
 use Rattle.codec.proofs.Questions.{byte-from-clean}
 use Rattle.codec.proofs.Sealed.{length-sealed, getD-sealed, sealed-checked, is-sealed}

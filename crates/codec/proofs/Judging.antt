@@ -1,20 +1,17 @@
 -- The file check, step by step: where it stops, the first fault is found.
 use Prim.Native.Nat.{ℕ, zero, suc, _+_, _*_, _<_, _≤_}
-use lib.Dec.{eqb, ltb}
-use lib.ListN.{length, getD}
-use mathlib.Core.Bool.{true}
+use lib.ListN.{length}
 use mathlib.Core.List.{List}
 use mathlib.Core.Logic.{⊎-elim}
 use mathlib.Core.Path.{_≡_, refl, sym, ap, subst, _∙_}
 use native.Mathlib.Omega.{arith}
 use Rattle.std.specs.declared.option.Option.{Option}
-use Rattle.std.specs.declared.option.Option.the-variants.{Some, None}
+use Rattle.std.specs.declared.option.Option.the-variants.{None}
 use Rattle.std.proofs.shelf.Tests.{cases-lt, lt-ltb, le-ltb, ne-eqb, eq-eqb, cases-order}
 use Rattle.faults.specs.declared.Refusal.the-variants.{WrongSize}
 use Rattle.faults.specs.declared.Place.the-variants.{At}
 use Rattle.faults.specs.declared.Fault.{Fault}
-use Rattle.matching.specs.Lists.{lawful}
-use Rattle.codec.specs.Blocks.{baking, blockOf}
+use Rattle.codec.specs.Blocks.{blockOf}
 use Rattle.codec.specs.Findings.{inFile, headerFault, rowFault, blockFinding, doors, finding, Clean, First, NoFault, FirstFault}
 use Rattle.codec.specs.Verdicts.{RefusedFor}
 use Rattle.codec.proofs.Questions.{question-below}

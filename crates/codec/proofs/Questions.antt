@@ -1,5 +1,5 @@
 -- The questions about one block.
-use Prim.Native.Nat.{ℕ, zero, suc, _+_, _<_}
+use Prim.Native.Nat.{ℕ, zero, suc, _<_}
 use lib.Dec.{ltb}
 use mathlib.Core.Bool.{true, false}
 use mathlib.Core.List.{List}

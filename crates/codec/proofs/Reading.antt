@@ -9,7 +9,7 @@ use mathlib.Core.Path.{_≡_, sym, ap, subst, _∙_}
 use native.Mathlib.Omega.{arith}
 use Rattle.std.proofs.shelf.Lists.{ext-getD, getD-set-same, getD-set-other}
 use Rattle.std.proofs.shelf.Tests.{cases-eq, and-from, lt-ltb, cond-true}
-use Rattle.matching.specs.Lists.{row, lawful, lawful-list}
+use Rattle.matching.specs.Lists.{row, lawful-list}
 use Rattle.matching.proofs.Rows.{lawful-facts, list-from-facts}
 use Rattle.codec.specs.Blocks.{baking, blockOf, listIn}
 use Rattle.codec.specs.Verdicts.{FileOf}

@@ -1,17 +1,14 @@
 -- Every file has a first fault or none: the questions are searched in order, and there are finitely many.
-use Prim.Native.Nat.{ℕ, zero, suc, _+_, _*_, _<_, _≤_}
-use lib.Dec.{ltb}
-use lib.ListN.{length}
+use Prim.Native.Nat.{ℕ, zero, suc, _<_}
 use mathlib.Core.List.{List}
 use mathlib.Core.Logic.{_⊎_, inl, inr, ⊎-elim}
-use mathlib.Core.Path.{_≡_, refl, sym, ap, subst, _∙_}
+use mathlib.Core.Path.{_≡_, refl, ap, subst, _∙_}
 use native.Mathlib.Omega.{arith}
 use Rattle.std.specs.declared.option.Option.{Option}
 use Rattle.std.specs.declared.option.Option.the-variants.{Some, None}
 use Rattle.std.proofs.shelf.Tests.{cases-lt, le-ltb}
 use Rattle.faults.specs.declared.Fault.{Fault}
-use Rattle.codec.specs.Blocks.{blockOf}
-use Rattle.codec.specs.Findings.{blockFinding, rowFault, doors, finding, Clean, First, NoFault, FirstFault}
+use Rattle.codec.specs.Findings.{blockFinding, doors, finding, Clean, First, NoFault, FirstFault}
 use Rattle.codec.proofs.Judging.{past-clean}
 
 either-way : (o : Option Fault) → (o ≡ None) ⊎ ((f : Fault) × (o ≡ Some f))

@@ -1,4 +1,7 @@
 // Preference lists and linkings: definitions, and the theorems about them.
+pub mod one_way;
+pub mod rotations;
+
 ghost use mathlib.Core.Path.{_≡_};
 ghost use Prim.Native.Nat.{ℕ, _<_};
 ghost use lib.ListN.{length};

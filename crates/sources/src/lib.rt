@@ -2,6 +2,7 @@
 mod baking;
 mod file;
 mod ground;
+mod laws;
 mod reach;
 mod reading;
 mod source;
@@ -12,6 +13,7 @@ pub use file::FileAsSource;
 pub use file::FileSource;
 pub use ground::GroundAsSource;
 pub use ground::GroundSource;
+pub use laws::baked_lists_read_back;
 pub use reach::Reach;
 pub use reach::ReachSource;
 pub use reading::copied;

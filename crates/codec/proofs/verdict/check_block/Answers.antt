@@ -1,4 +1,4 @@
-use mathlib.Core.Path.{sym, _∙_}
+use mathlib.Core.Path.{sym}
 use native.Mathlib.Omega.{arith}
 use Rattle.codec.specs.Kinds.{refusalAt}
 use Rattle.codec.proofs.Questions.{check-first, byte-first, all-clean}
