@@ -1,3 +1,4 @@
+pub mod Edits
 pub mod Marks
 pub mod Rows
 pub mod Tables

@@ -5,6 +5,7 @@ ghost use mathlib.Core.Path.{_≡_};
 ghost use Rattle.matching.specs.Lists.{place};
 ghost use Rattle.lists.specs.Marks.{mark};
 
+mod gathering;
 mod making;
 
 // The mark of a door that is not listed.

@@ -9,8 +9,10 @@ ghost use Rattle.lists.specs.Rows.{row-list};
 use crate::row::Row;
 
 mod asking;
+mod editing;
 
 // Lawful lists: `count` doors, a row for each.
+#[derive(Drop)]
 pub struct ListTable {
     count: u8,
     rows: [Row; 96],

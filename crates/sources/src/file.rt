@@ -5,6 +5,7 @@ use crate::source::Source;
 use lists::ListTable;
 
 // The lists of an accepted level file.
+#[derive(Drop)]
 pub struct FileSource {
     table: ListTable,
 }

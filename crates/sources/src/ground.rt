@@ -8,6 +8,7 @@ use lists::ListTable;
 use survey::Record;
 
 // The doors of a survey, ranked once, when it is made.
+#[derive(Drop)]
 pub struct GroundSource {
     table: ListTable,
 }

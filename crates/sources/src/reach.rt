@@ -3,6 +3,7 @@ ghost use Rattle.sources.specs.Layers.{reached};
 use crate::source::Source;
 
 // The source below with only the first `reach` doors of each list.
+#[derive(Drop)]
 pub struct Reach<S> {
     pub below: S,
     pub reach: u8,
