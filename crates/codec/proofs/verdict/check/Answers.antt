@@ -39,7 +39,7 @@ returns-then-bytes-from c =
     let h = need.at·returns-then-bytes-from c .In-Continue-n in
     let f = c .wrong-size-then-bytes-from .result in
     refused (c .args .bytes .now) f
-    (size-first (c .args .bytes .now) f (c .wrong-size-then-bytes-from .ensures) (c .if-bytes-lt-BLOCK .left) (header-clean h) (λ e. c .if-bytes-from .taken (omega (arith, e, doors-read h))))
+    (size-first (c .args .bytes .now) f (c .wrong-size-then-bytes-from .ensures) (c .if-bytes-lt-BLOCK .left) (header-clean h) (λ e. omega (arith, e, doors-read h)))
 
 pub returns-in-Break-check-block : need.returns-in-Break-check-block
 returns-in-Break-check-block c =

@@ -1,0 +1,5 @@
+// Tests of the checks of files and surveys at their edges.
+#[cfg(test)]
+mod files;
+#[cfg(test)]
+mod surveys;
