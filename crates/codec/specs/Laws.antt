@@ -1,12 +1,11 @@
 -- Laws of level files.
 use Prim.Native.Nat.{ℕ}
-use lib.ListN.{drop}
 use mathlib.Core.Bool.{true}
-use mathlib.Core.List.{List, [], _∷_}
+use mathlib.Core.List.{List}
 use mathlib.Core.Path.{_≡_}
 use Rattle.faults.specs.declared.Fault.{Fault}
 use Rattle.matching.specs.Lists.{lawful}
-use Rattle.codec.specs.Blocks.{blockCheck, lowHigh, baking, blockOf}
+use Rattle.codec.specs.Blocks.{baking}
 use Rattle.codec.specs.Findings.{FirstFault}
 
 -- bytes without a first fault are the file of some lawful lists
@@ -24,15 +23,3 @@ OneFirstFault = (bytes : List ℕ) (f g : Fault) → FirstFault bytes f → Firs
 -- different lawful lists have different files
 abbrev pub FilesDiffer : Type 0
 FilesDiffer = (ks ls : List (List ℕ)) → lawful ks ≡ true → lawful ls ≡ true → baking ks ≡ baking ls → ks ≡ ls
-
--- two doors that list each other
-abbrev pub twoDoors : List (List ℕ)
-twoDoors = (1 ∷ []) ∷ (0 ∷ []) ∷ []
-
--- the check of a block is n, and its last two bytes say so
-abbrev pub HasCheck : List ℕ → ℕ → Type 0
-HasCheck block n = (blockCheck block ≡ n) × (drop 510 block ≡ lowHigh n)
-
--- the checks of their file, and of the file of no doors
-abbrev pub WorkedChecks : Type 0
-WorkedChecks = HasCheck (blockOf (baking twoDoors) 0) 808 × HasCheck (blockOf (baking twoDoors) 1) 89 × HasCheck (blockOf (baking twoDoors) 2) 87 × HasCheck (blockOf (baking []) 0) 796

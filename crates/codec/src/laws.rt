@@ -1,5 +1,5 @@
 // Laws of the level file, each the contract of a function.
-ghost use Rattle.codec.specs.Laws.{FaultlessAreFiles, FilesAreFaultless, OneFirstFault, FilesDiffer, WorkedChecks};
+ghost use Rattle.codec.specs.Laws.{FaultlessAreFiles, FilesAreFaultless, OneFirstFault, FilesDiffer};
 
 // Exactly the files of lawful lists have no first fault.
 pub fn faultless_are_files() -> u8
@@ -18,13 +18,6 @@ pub fn one_first_fault() -> u8
 // Different lawful lists have different files.
 pub fn baking_is_injective() -> u8
     ensures { λ _. ⌜ FilesDiffer ⌝ }
-{
-    0
-}
-
-// The checks of two small files.
-pub fn worked_checks() -> u8
-    ensures { λ _. ⌜ WorkedChecks ⌝ }
 {
     0
 }

@@ -9,7 +9,6 @@ pub use block::block_check;
 pub use laws::baking_is_injective;
 pub use laws::faultless_are_files;
 pub use laws::one_first_fault;
-pub use laws::worked_checks;
 pub use table::read;
 pub use verdict::check;
 pub use write::write_header;

@@ -2,8 +2,6 @@ pub mod Lists
 pub mod Ranks
 pub mod Linkings
 pub mod Proposals
-pub mod OneWayExamples
 pub mod Settled
 pub mod Rotations
 pub mod TwoWay
-pub mod TwoWayExamples

@@ -1,13 +1,12 @@
 // One-way linking by proposals: the theorems.
 ghost use mathlib.Core.Path.{_≡_};
 ghost use Prim.Native.Nat.{ℕ};
-ghost use mathlib.Core.List.{List, [], _∷_};
+ghost use mathlib.Core.List.{List};
 ghost use mathlib.Core.Bool.{true};
 ghost use mathlib.Core.Logic.{_⊎_};
 ghost use Rattle.matching.specs.Lists.{lawful};
 ghost use Rattle.matching.specs.Linkings.{accept, countsOneWay, Linking, Stable, BlockingPair};
 ghost use Rattle.matching.specs.Proposals.{BestForExits, EndsIn, OneWayResult};
-ghost use Rattle.matching.specs.OneWayExamples.{fourDoors, fourSides, sixDoors, sixSides};
 
 // Over any lawful lists and any sides proposals come to an end.
 pub fn proposals_end() -> u8
@@ -41,20 +40,6 @@ pub fn one_is_best() -> u8
 pub fn stable_or_blocking() -> u8
     ensures any { λ _. ⌜ ((ls : List (List ℕ)) (m : List ℕ) → lawful ls ≡ true → Linking ls (accept ls) m → Stable ls (accept ls) m ⊎ ((x : ℕ) × (y : ℕ) × BlockingPair ls (accept ls) m x y)) ⌝ }
     ensures one { λ _. ⌜ ((ls : List (List ℕ)) (sides m : List ℕ) → lawful ls ≡ true → Linking ls (countsOneWay ls sides) m → Stable ls (countsOneWay ls sides) m ⊎ ((x : ℕ) × (y : ℕ) × BlockingPair ls (countsOneWay ls sides) m x y)) ⌝ }
-{
-    0
-}
-
-// Four doors: both exits get their first, after two proposals.
-pub fn four_doors() -> u8
-    ensures { λ _. ⌜ OneWayResult fourDoors fourSides (2 ∷ 3 ∷ 0 ∷ 1 ∷ []) 2 ⌝ }
-{
-    0
-}
-
-// Six doors: exits are refused and displaced, and it takes six proposals.
-pub fn six_doors() -> u8
-    ensures { λ _. ⌜ OneWayResult sixDoors sixSides (4 ∷ 5 ∷ 3 ∷ 2 ∷ 0 ∷ 1 ∷ []) 6 ⌝ }
 {
     0
 }

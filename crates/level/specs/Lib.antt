@@ -1,0 +1,5 @@
+pub mod Checks
+pub mod Edits
+pub mod Meant
+pub mod Tables
+pub mod View
