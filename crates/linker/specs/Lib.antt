@@ -1,0 +1,4 @@
+pub mod Tables
+pub mod Meanings
+pub mod Turns
+pub mod OneWay

@@ -1,0 +1,5 @@
+// Tests over several layers: levels under edit, and linkings over piles of sources.
+#[cfg(test)]
+mod levels;
+#[cfg(test)]
+mod linkings;

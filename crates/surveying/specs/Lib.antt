@@ -1,0 +1,4 @@
+pub mod Errors
+pub mod Failures
+pub mod Summary
+pub mod Survey

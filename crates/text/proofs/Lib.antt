@@ -1,0 +1,4 @@
+pub mod Numerals
+pub mod Signs
+pub mod Cuts
+pub mod Words
