@@ -1,28 +1,28 @@
 -- What the tables answer about the lists that they hold.
-use Prim.Native.Nat.{ℕ, suc, _+_, _*_, _<_, _≤_}
+use Prim.Native.Nat.{ℕ, _+_, _*_, _<_, _≤_}
 use denote.Ref.{now}
 use lib.Dec.{eqb}
-use lib.ListN.{length, getD, take, drop}
-use mathlib.Core.Bool.{Bool, true, false, not, _&&_, _||_, cond}
-use mathlib.Core.List.{List, [], map}
-use mathlib.Core.Logic.{_⊎_, inl, inr, ⊎-elim}
+use lib.ListN.{length, getD, drop}
+use mathlib.Core.Bool.{true, not, _&&_}
+use mathlib.Core.List.{List, []}
+use mathlib.Core.Logic.{_⊎_, ⊎-elim}
 use mathlib.Core.Path.{_≡_, refl, sym, ap, subst, _∙_}
 use native.Mathlib.Omega.{arith}
-use Rattle.std.specs.Iters.{counting}
 use Rattle.std.specs.Options.{isSome}
 use Rattle.std.specs.declared.option.Option.{Option}
 use Rattle.std.specs.declared.option.Option.the-variants.{Some, None}
 use Rattle.std.proofs.shelf.Counted.{length-map-counting, getD-map-counting}
 use Rattle.std.proofs.shelf.Lists.{ext-getD, getD-past, getD-take, getD-drop, length-take-le, length-drop}
-use Rattle.std.proofs.shelf.Tests.{and-parts, and-from, and-left, and-right, eqb-true, eq-eqb, ne-eqb, cases-eq, cases-lt, cases-bool}
+use Rattle.std.proofs.shelf.Tests.{eqb-true, ne-eqb, cases-lt}
 use Rattle.std.proofs.shelf.Ways.{tells}
 use Rattle.matching.specs.Lists.{row, place, Lawful, PlaceOf}
 use Rattle.matching.specs.Linkings.{listed, accept, exit, entrance, countsOneWay}
 use Rattle.matching.proofs.Rows.{place-view}
+use Rattle.sources.proofs.Asked.{some-view}
 use Rattle.linker.specs.Tables.{mark, Holds, tableRow, tabled}
 use Rattle.linker.specs.Meanings.{listsIn, Sound}
 use Rattle.linker.specs.declared.tables.Tables.{Tables}
-use Rattle.linker.proofs.Written.{some-view, row-short, row-room}
+use Rattle.linker.proofs.Written.{row-short, row-room}
 
 -- a door is on a list where its mark is not that of absence
 marked : (l : List ℕ) (y : ℕ) → length l ≤ 96 → isSome (place l y) ≡ not (eqb (mark (place l y)) 65535)

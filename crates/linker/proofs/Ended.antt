@@ -1,20 +1,19 @@
 -- The partners that the program writes down are the result of the run.
-use Prim.Native.Nat.{ℕ, suc, _+_, _<_, _≤_}
+use Prim.Native.Nat.{ℕ, suc, _+_, _≤_}
 use lib.ListN.{length, getD, set, replicate}
 use mathlib.Core.List.{List}
-use mathlib.Core.Logic.{_⊎_, inl, inr, ⊎-elim}
+use mathlib.Core.Logic.{_⊎_, ⊎-elim}
 use mathlib.Core.Path.{_≡_, refl, sym, ap, subst, _∙_}
 use native.Mathlib.Omega.{arith}
-use Rattle.std.proofs.shelf.Lists.{length-set}
 use Rattle.std.proofs.shelf.Tests.{cases-lt}
 use Rattle.matching.specs.Lists.{Lawful}
 use Rattle.matching.specs.Linkings.{unlinked, partner}
 use Rattle.matching.specs.Proposals.{Asking, Runs, ResultOf, OneWayResult}
-use Rattle.matching.proofs.Bridge.{link-of, link-none, link-some}
+use Rattle.matching.proofs.Bridge.{link-none, link-some}
 use Rattle.matching.proofs.Endings.{one-way-result}
-use Rattle.matching.proofs.Runs.{holds, Under, no-list, run-under, same-everywhere}
+use Rattle.matching.proofs.Runs.{holds, no-list, run-under, same-everywhere}
 use Rattle.matching.proofs.Turns.{Spread, spread-none, spread-skip, spread-more, spread-all}
-use Rattle.linker.specs.Turns.{Going}
+use Rattle.linker.specs.Turns.{stateOf, Going}
 
 -- the partners of the doors below y are written down, whatever run led to `held`
 abbrev pub Telling : List ℕ → ℕ → List ℕ → Type 0
@@ -50,8 +49,8 @@ pub going-all : (ls : List (List ℕ)) (sides : List ℕ) → Lawful ls → (d k
     → ((s : Asking) → Runs ls sides k s → s .held ≡ held → ResultOf ls s m) → OneWayResult ls sides m k
 going-all ls sides f d k next held m e g r =
     one-way-result ls sides f k m (
-      record { asked = g .asked; held = held },
+      stateOf (g .asked) held,
       g .run,
       λ x t o. ⊎-elim (λ b. g .through x (omega arith) (omega (arith, f .few)) t o) (λ b. omega (arith, no-list ls sides x b)) (cases-lt x (length ls)),
-      r (record { asked = g .asked; held = held }) (g .run) refl,
+      r (stateOf (g .asked) held) (g .run) refl,
     )

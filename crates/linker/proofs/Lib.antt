@@ -1,4 +1,10 @@
 pub mod Written
 pub mod Asked
+pub mod Standing
+pub mod Asking
 pub mod Proposed
 pub mod Ended
+pub mod Stepping
+pub mod Walking
+pub mod Cutting
+pub mod Concluding

@@ -3,7 +3,7 @@ use Prim.Native.Nat.{ℕ, zero, suc, _+_, _-_, _*_, _<_, _≤_}
 use denote.Ref.{now}
 use lib.ListN.{length, getD, take, drop, set, replicate}
 use mathlib.Core.Bool.{Bool, true, false, cond}
-use mathlib.Core.List.{List, [], _∷_, _++_}
+use mathlib.Core.List.{List, _∷_, _++_}
 use mathlib.Core.Logic.{_⊎_, inl, inr, ⊎-elim}
 use mathlib.Core.Path.{_≡_, refl, sym, ap, subst, _∙_}
 use native.Mathlib.Omega.{arith}
@@ -19,16 +19,16 @@ use Rattle.std.proofs.shelf.Sums.{sumBy-le}
 use Rattle.std.proofs.shelf.Tests.{and-parts, cases-eq, cases-lt}
 use Rattle.matching.specs.Lists.{row, place, Lawful}
 use Rattle.matching.specs.Linkings.{unlinked, listed, accept, exit, countsOneWay, partner, Prefers}
-use Rattle.matching.specs.Proposals.{trimmed, Asking, atFirst, Free, Answers, Proposal, Runs, Finished}
+use Rattle.matching.specs.Proposals.{trimmed, Asking, Free, Answers, Runs}
 use Rattle.matching.proofs.Bridge.{oneWay-parts, oneWay-pairing, trim-end, trim-short}
 use Rattle.matching.proofs.Pointers.{held-once}
-use Rattle.matching.proofs.Runs.{ranks, asks, holds, Under, lawful-ranks, lawful-sided, held-pair, counts-door, fits, run-under, same-everywhere}
+use Rattle.matching.proofs.Runs.{ranks, asks, holds, Under, lawful-ranks, lawful-sided, held-pair, run-under, same-everywhere}
 use Rattle.matching.proofs.Turns.{held-exit}
+use Rattle.sources.proofs.Asked.{some-view}
 use Rattle.linker.specs.Tables.{mark}
 use Rattle.linker.specs.Meanings.{listsIn, Sound}
 use Rattle.linker.specs.declared.tables.Tables.{Tables}
-use Rattle.linker.specs.Turns.{asksTo, NextPlace, Through, Going}
-use Rattle.linker.proofs.Written.{some-view}
+use Rattle.linker.specs.Turns.{asksTo, stateOf, NextPlace, Going}
 use Rattle.linker.proofs.Asked.{listed-doors, row-listed, tabled-length, told-door, told-place}
 
 -- the proposals on the places of one list
@@ -133,10 +133,7 @@ set-cases l i v h P here rest w =
 
 -- a proposal on its way
 module _ (ls : List (List ℕ)) (sides : List ℕ) (f : Lawful ls) (d x c k : ℕ) (next held : List ℕ) (g : Going ls sides d x c next held) (a : x ≡ unlinked → ⊥) (n : NextPlace ls sides x (getD next x 0) k) where
-  s : Asking
-  s = record { asked = g .asked; held = held }
-
-  at-work : (x < d) × (exit sides x ≡ true) × Free (record { asked = g .asked; held = held }) x
+  at-work : (x < d) × (exit sides x ≡ true) × Free (stateOf (g .asked) held) x
   at-work = ⊎-elim (λ e. absurd (a e)) (λ w. w) (g .asker)
 
   here : x < length next
@@ -173,8 +170,7 @@ module _ (ls : List (List ℕ)) (sides : List ℕ) (f : Lawful ls) (d x c k : �
     asked′ = set (g .asked) x (suc (getD (g .asked) x 0))
 
     wide : x < length (g .asked)
-    unfolding s
-    wide = omega (arith, here, g .size, run-under ls sides f c s (g .run) .wide)
+    wide = omega (arith, here, g .size, run-under ls sides f c (stateOf (g .asked) held) (g .run) .wide)
 
     found : (asksTo ls sides x (k + 1) ≡ suc (getD (g .asked) x 0)) × (getD (g .asked) x 0 < length (trimmed ls (countsOneWay ls sides) x))
         × (getD (trimmed ls (countsOneWay ls sides) x) (getD (g .asked) x 0) 0 ≡ getD (row ls x) k 0)
@@ -183,17 +179,17 @@ module _ (ls : List (List ℕ)) (sides : List ℕ) (f : Lawful ls) (d x c k : �
         (sym (g .places x ∙ sym (asks-skipped ls sides x (getD next x 0) k n))) (asks-found ls sides x (getD next x 0) k n h)
 
     -- whatever y answers, one more proposal is made
-    going-on : (z : ℕ) (held′ : List ℕ) → Answers ls (record { asked = g .asked; held = held }) x y held′
-        → ((w : ℕ) → w < d → (w ≡ z → ⊥) → (w ≡ x → ⊥) → Free (record { asked = asked′; held = held′ }) w → Free (record { asked = g .asked; held = held }) w)
-        → ((x ≡ z) ⊎ (Free (record { asked = asked′; held = held′ }) x → ⊥))
-        → ((z ≡ unlinked) ⊎ ((z < d) × (exit sides z ≡ true) × Free (record { asked = asked′; held = held′ }) z))
+    going-on : (z : ℕ) (held′ : List ℕ) → Answers ls (stateOf (g .asked) held) x y held′
+        → ((w : ℕ) → w < d → (w ≡ z → ⊥) → (w ≡ x → ⊥) → Free (stateOf asked′ held′) w → Free (stateOf (g .asked) held) w)
+        → ((x ≡ z) ⊎ (Free (stateOf asked′ held′) x → ⊥))
+        → ((z ≡ unlinked) ⊎ ((z < d) × (exit sides z ≡ true) × Free (stateOf asked′ held′) z))
         → Going ls sides d z (c + 1) (set next x (k + 1)) held′
     unfolding asked′
     going-on z held′ answer others own asker′ =
         record {
           asked = asked′;
-          run = subst (λ m. Runs ls sides m (record { asked = asked′; held = held′ })) {x = suc c} (omega arith) (
-            record { asked = g .asked; held = held },
+          run = subst (λ m. Runs ls sides m (stateOf asked′ held′)) {x = suc c} (omega arith) (
+            stateOf (g .asked) held,
             x,
             y,
             g .run,
@@ -210,7 +206,7 @@ module _ (ls : List (List ℕ)) (sides : List ℕ) (f : Lawful ls) (d x c k : �
               (cases-eq w x);
           through = λ w b m t o.
               ⊎-elim
-              (λ (i : w ≡ x). absurd (⊎-elim (λ j. m (i ∙ j)) (λ j. j (subst (Free (record { asked = asked′; held = held′ })) i o)) own))
+              (λ (i : w ≡ x). absurd (⊎-elim (λ j. m (i ∙ j)) (λ j. j (subst (Free (stateOf asked′ held′)) i o)) own))
               (λ i. subst (λ v. length (trimmed ls (countsOneWay ls sides) w) ≤ v) (sym (getD-set-other (g .asked) x w (suc (getD (g .asked) x 0)) 0 i)) (g .through w b i t (others w b m i o)))
               (cases-eq w x);
           later = λ w b. getD-set-other (g .asked) x w (suc (getD (g .asked) x 0)) 0 (omega (arith, at-work .0)) ∙ g .later w b;
@@ -220,14 +216,14 @@ module _ (ls : List (List ℕ)) (sides : List ℕ) (f : Lawful ls) (d x c k : �
     -- y prefers the exit z that it holds
     pub going-refused : (z : ℕ) → z ≡ partner held y → (z ≡ unlinked → ⊥) → mark (place (row ls y) z) < mark (place (row ls y) x) → Going ls sides d x (c + 1) (set next x (k + 1)) held
     going-refused z i m less =
-        let w = holder-facts ls sides f c (record { asked = g .asked; held = held }) (g .run) y (λ o. m (i ∙ o)) in
+        let w = holder-facts ls sides f c (stateOf (g .asked) held) (g .run) y (λ o. m (i ∙ o)) in
         let known : listed ls y z ≡ true = counts-listed ls sides y z (subst (λ v. countsOneWay ls sides y v ≡ true) (sym i) (w .0)) in
         going-on x held (inr (subst (λ v. Prefers ls y v x) i (prefers-marks ls y z x known back less), refl)) (λ _ _ _ _ o. o) (inl refl) (inr at-work)
 
     -- once y holds x
     module _ (z : ℕ) (i : z ≡ partner held y) where
       held-here : partner (set held y x) y ≡ x
-      held-here = getD-set-same held y x unlinked (omega (arith, listed-doors ls x y f (counts-listed ls sides x y pair) .1, run-under ls sides f c (record { asked = g .asked; held = held }) (g .run) .long))
+      held-here = getD-set-same held y x unlinked (omega (arith, listed-doors ls x y f (counts-listed ls sides x y pair) .1, run-under ls sides f c (stateOf (g .asked) held) (g .run) .long))
 
       held-else : (v : ℕ) → (v ≡ y → ⊥) → partner (set held y x) v ≡ partner held v
       held-else v m = getD-set-other held y v x unlinked m
@@ -236,14 +232,14 @@ module _ (ls : List (List ℕ)) (sides : List ℕ) (f : Lawful ls) (d x c k : �
       differ o = at-work .2 y (sym i ∙ sym o)
 
       -- only x is held anew, and only z let go
-      others-free : (w : ℕ) → (w ≡ z → ⊥) → Free (record { asked = asked′; held = set held y x }) w → Free (record { asked = g .asked; held = held }) w
+      others-free : (w : ℕ) → (w ≡ z → ⊥) → Free (stateOf asked′ (set held y x)) w → Free (stateOf (g .asked) held) w
       others-free w m o v q = ⊎-elim (λ (j : v ≡ y). m (sym q ∙ ap (partner held) j ∙ sym i)) (λ j. o v (held-else v j ∙ q)) (cases-eq v y)
 
-      freed : (z ≡ unlinked → ⊥) → Free (record { asked = asked′; held = set held y x }) z
+      freed : (z ≡ unlinked → ⊥) → Free (stateOf asked′ (set held y x)) z
       freed m v q =
           ⊎-elim
           (λ (j : v ≡ y). differ (sym held-here ∙ ap (partner (set held y x)) (sym j) ∙ q))
-          (λ j. j (holder-once ls sides f c (record { asked = g .asked; held = held }) (g .run) y v (λ o. m (i ∙ o)) (sym (held-else v j) ∙ q ∙ i)))
+          (λ j. j (holder-once ls sides f c (stateOf (g .asked) held) (g .run) y v (λ o. m (i ∙ o)) (sym (held-else v j) ∙ q ∙ i)))
           (cases-eq v y)
 
       -- y held nobody
@@ -253,7 +249,7 @@ module _ (ls : List (List ℕ)) (sides : List ℕ) (f : Lawful ls) (d x c k : �
       -- y prefers x
       going-better : (z ≡ unlinked → ⊥) → mark (place (row ls y) x) ≤ mark (place (row ls y) z) → Going ls sides d z (c + 1) (set next x (k + 1)) (set held y x)
       going-better m less =
-          let w = holder-facts ls sides f c (record { asked = g .asked; held = held }) (g .run) y (λ o. m (i ∙ o)) in
+          let w = holder-facts ls sides f c (stateOf (g .asked) held) (g .run) y (λ o. m (i ∙ o)) in
           let known : listed ls y z ≡ true = counts-listed ls sides y z (subst (λ v. countsOneWay ls sides y v ≡ true) (sym i) (w .0)) in
           let more : 0 < getD (g .asked) z 0 = subst (λ v. 0 < getD (g .asked) v 0) (sym i) (w .2) in
           let strict : mark (place (row ls y) x) < mark (place (row ls y) z) =
@@ -288,7 +284,7 @@ module _ (t : Tables) (o : Sound t) (sides : List ℕ) (d x c k : ℕ) (next hel
 
   mark-held : (z ≡ unlinked → ⊥) → getD (now (t .places)) (y * t .count + z) 0 ≡ mark (place (row (listsIn t) y) z)
   mark-held m =
-      let w = holder-facts (listsIn t) sides (o .legal) c (record { asked = g .asked; held = held }) (g .run) y (λ i. m (whom ∙ i)) in
+      let w = holder-facts (listsIn t) sides (o .legal) c (stateOf (g .asked) held) (g .run) y (λ i. m (whom ∙ i)) in
       let b = listed-doors (listsIn t) y z (o .legal) (counts-listed (listsIn t) sides y z (subst (λ v. countsOneWay (listsIn t) sides y v ≡ true) (sym whom) (w .0))) in
       told-place t o y z (doors .1) (omega (arith, b .1, tabled-length (t .count) (now (t .lists)) (now (t .sizes))))
 
@@ -306,7 +302,7 @@ module _ (t : Tables) (o : Sound t) (sides : List ℕ) (d x c k : ℕ) (next hel
 -- at most 96 doors ask at most 96 times each
 pub going-few : (ls : List (List ℕ)) (sides : List ℕ) → Lawful ls → (d x k : ℕ) (next held : List ℕ) → Going ls sides d x k next held → k ≤ 9216
 going-few ls sides f d x k next held g =
-    let u = run-under ls sides f k (record { asked = g .asked; held = held }) (g .run) in
+    let u = run-under ls sides f k (stateOf (g .asked) held) (g .run) in
     let each : (w : ℕ) → getD (g .asked) w 0 ≤ 96 = λ w.
     omega (arith, u .progress .within w, trim-end ls (countsOneWay ls sides) f (oneWay-pairing ls sides) w, trim-short ls (countsOneWay ls sides) f (oneWay-pairing ls sides) w, f .few) in
     omega (arith, u .total, sumBy-le (λ v. v) 96 (g .asked) (all-from-getD (λ v. v ≤ 96) (g .asked) 0 (λ w _. each w)), mul-le (length (g .asked)) 96 96 96 (omega (arith, u .wide, f .few)) (omega arith))
@@ -340,7 +336,7 @@ module _ (ls : List (List ℕ)) (sides : List ℕ) (f : Lawful ls) (d k : ℕ) (
         places = g .places;
         through = λ w c m. g .through w (omega arith) (omega (arith, f .few));
         later = λ w c. g .later w (omega arith);
-        asker = inr (omega arith, t, λ y e. omega (arith, e, g .later d (omega arith), f .few, ap (λ v. getD (g .asked) v 0) e, holder-facts ls sides f k (record { asked = g .asked; held = held }) (g .run) y (λ i. omega (arith, i, e, f .few)) .2));
+        asker = inr (omega arith, t, λ y e. omega (arith, e, g .later d (omega arith), f .few, ap (λ v. getD (g .asked) v 0) e, holder-facts ls sides f k (stateOf (g .asked) held) (g .run) y (λ i. omega (arith, i, e, f .few)) .2));
       }
 
   pub going-passes : (exit sides d ≡ true → ⊥) → Going ls sides (d + 1) unlinked k next held

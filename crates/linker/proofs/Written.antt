@@ -2,26 +2,20 @@
 use Prim.Native.Nat.{ℕ, _+_, _*_, _<_, _≤_}
 use lib.ListN.{length, getD, take, set}
 use mathlib.Core.Bool.{true}
-use mathlib.Core.List.{List, []}
-use mathlib.Core.Logic.{_⊎_, inl, inr, ⊎-elim}
-use mathlib.Core.Path.{_≡_, refl, sym, ap, subst, _∙_}
+use mathlib.Core.List.{List}
+use mathlib.Core.Logic.{_⊎_, ⊎-elim}
+use mathlib.Core.Path.{_≡_, sym, ap, subst, _∙_}
 use native.Mathlib.Nat.{add-mul}
 use native.Mathlib.Omega.{arith}
-use Rattle.std.specs.declared.option.Option.{Option}
 use Rattle.std.specs.declared.option.Option.the-variants.{Some, None}
 use Rattle.std.proofs.shelf.Bits.{mul-le}
-use Rattle.std.proofs.shelf.Lists.{getD-set-same, getD-set-other, getD-take, getD-past, take-set-le}
-use Rattle.std.proofs.shelf.Tests.{cases-eq, cases-lt}
-use Rattle.matching.specs.Lists.{row, place, lawful, Lawful, PlaceOf}
-use Rattle.matching.proofs.Rows.{lawful-facts, list-from-facts, place-view}
+use Rattle.std.proofs.shelf.Lists.{getD-set-same, getD-set-other, getD-take}
+use Rattle.std.proofs.shelf.Tests.{cases-eq}
+use Rattle.matching.specs.Lists.{row, place, lawful, Lawful}
+use Rattle.matching.proofs.Rows.{lawful-facts, list-from-facts}
 use Rattle.matching.proofs.Kept.{lawful-at-most}
+use Rattle.sources.proofs.Asked.{some-view, none-view}
 use Rattle.linker.specs.Tables.{mark, ReadTo, ListRead}
-
-pub some-view : (l : List ℕ) (y p : ℕ) → place l y ≡ Some p → PlaceOf l y (Some p)
-some-view l y p e = subst (PlaceOf l y) e (place-view l y)
-
-pub none-view : (l : List ℕ) (y : ℕ) → place l y ≡ None → PlaceOf l y None
-none-view l y e = subst (PlaceOf l y) e (place-view l y)
 
 -- a list of one of n doors has at most n places
 pub row-short : (ls : List (List ℕ)) (x : ℕ) → Lawful ls → length (row ls x) ≤ length ls
@@ -29,10 +23,6 @@ row-short ls x f = lawful-at-most (length ls) x (row ls x) (list-from-facts (len
 
 pub place-fits : (ls : List (List ℕ)) (d y p : ℕ) → lawful ls ≡ true → place (row ls d) y ≡ Some p → p < length ls
 place-fits ls d y p h e = omega (arith, some-view (row ls d) y p e .0, row-short ls d (lawful-facts ls h))
-
--- nothing is read of a list before the first door is asked for
-pub read-none : (l : List ℕ) (base : ℕ) (lists places : List ℕ) → ListRead l base 0 lists places
-read-none l base lists places = record { listed = λ k i b. absurd (omega arith); placed = λ z b. absurd (omega arith) }
 
 -- a write at the next place keeps the places before
 next-placed : (l : List ℕ) (base y v : ℕ) (places : List ℕ) → ((z : ℕ) → z < y → getD places (base + z) 0 ≡ mark (place l z)) → base + y < length places → v ≡ mark (place l y)
@@ -65,10 +55,6 @@ module _ (ls : List (List ℕ)) (d : ℕ) (law : lawful ls ≡ true) (base y : �
         listed = λ k a b. r .listed k a (⊎-elim (λ (s : getD (row ls d) k 0 ≡ y). absurd (v k a s)) (λ s. omega arith) (cases-eq (getD (row ls d) k 0) y));
         placed = next-placed (row ls d) base y 65535 places (r .placed) j (sym (ap mark e));
       }
-
--- no list is written down at first
-pub written-none : (ls : List (List ℕ)) (lists places sizes : List ℕ) → ReadTo ls 0 lists places sizes
-written-none ls lists places sizes = record { listed = λ x k b i. absurd (omega arith); placed = λ x y b i. absurd (omega arith); sized = λ x b. absurd (omega arith) }
 
 -- a row stands before the next one
 row-before : (n x d k : ℕ) → x < d → k < n → x * n + k < d * n

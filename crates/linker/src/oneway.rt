@@ -19,7 +19,7 @@ use faults::Refusal;
 use sources::Source;
 
 // A refusal of the linker.
-fn refused(refusal: Refusal, at: u32) -> Fault
+pub(crate) fn refused(refusal: Refusal, at: u32) -> Fault
     ensures { λ r. ⌜ r ≡ linkerFault refusal at ⌝ }
 {
     Fault {

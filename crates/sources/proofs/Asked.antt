@@ -20,10 +20,10 @@ pub row-short : (ls : List (List ℕ)) (d : ℕ) → lawful ls ≡ true → leng
 row-short ls d h =
     let f = lawful-facts ls h in omega (arith, f .few, lawful-at-most (length ls) d (row ls d) (list-from-facts (length ls) d (row ls d) (f .each d)))
 
-some-view : (l : List ℕ) (y p : ℕ) → place l y ≡ Some p → PlaceOf l y (Some p)
+pub some-view : (l : List ℕ) (y p : ℕ) → place l y ≡ Some p → PlaceOf l y (Some p)
 some-view l y p e = subst (PlaceOf l y) e (place-view l y)
 
-none-view : (l : List ℕ) (y : ℕ) → place l y ≡ None → PlaceOf l y None
+pub none-view : (l : List ℕ) (y : ℕ) → place l y ≡ None → PlaceOf l y None
 none-view l y e = subst (PlaceOf l y) e (place-view l y)
 
 pub place-short : (ls : List (List ℕ)) (d y p : ℕ) → lawful ls ≡ true → place (row ls d) y ≡ Some p → p < 96

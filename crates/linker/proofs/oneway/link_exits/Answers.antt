@@ -1,6 +1,5 @@
-use Prim.Native.Nat.{_*_}
 use lib.ListN.{length}
-use mathlib.Core.Path.{_≡_, sym, subst, _∙_, ap}
+use mathlib.Core.Path.{_≡_, sym, subst, _∙_}
 use native.Mathlib.Omega.{arith}
 use Rattle.matching.specs.Lists.{Lawful}
 use Rattle.matching.proofs.Rows.{lawful-facts}

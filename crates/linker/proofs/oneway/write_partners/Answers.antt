@@ -1,5 +1,5 @@
 use lib.ListN.{length, getD, set}
-use mathlib.Core.Path.{_≡_, sym, subst, _∙_, ap}
+use mathlib.Core.Path.{sym, subst, _∙_, ap}
 use native.Mathlib.Omega.{arith}
 use Rattle.std.proofs.shelf.Lists.{getD-default}
 use Rattle.linker.proofs.Ended.{Telling, telling-none, telling-skip, telling-more, telling-all}

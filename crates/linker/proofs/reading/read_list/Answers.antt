@@ -1,4 +1,3 @@
-use lib.ListN.{take}
 use mathlib.Core.Path.{sym, _∙_}
 use native.Mathlib.Omega.{arith}
 use Rattle.std.proofs.shelf.Lists.{take-set-le}

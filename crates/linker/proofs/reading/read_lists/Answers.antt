@@ -3,7 +3,7 @@ use lib.ListN.{length, set}
 use mathlib.Core.Path.{ap, subst, sym}
 use native.Mathlib.Omega.{arith}
 use Rattle.linker.specs.Tables.{ReadTo}
-use Rattle.linker.proofs.Written.{row-room, written-none, written-more}
+use Rattle.linker.proofs.Written.{row-room, written-more}
 use Rattle.linker.proofs.reading.read_lists.Needs as need
 
 pub read-list-requires : need.read-list-requires

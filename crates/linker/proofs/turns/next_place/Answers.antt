@@ -1,6 +1,6 @@
 use Prim.Native.Nat.{_<_}
 use lib.ListN.{length, getD}
-use mathlib.Core.Bool.{true, false}
+use mathlib.Core.Bool.{true}
 use mathlib.Core.Logic.{⊎-elim}
 use mathlib.Core.Path.{_≡_, sym, _∙_, ap, subst}
 use native.Mathlib.Omega.{arith}

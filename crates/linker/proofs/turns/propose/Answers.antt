@@ -1,6 +1,4 @@
-use Prim.Native.Nat.{_+_, _<_}
 use lib.ListN.{length, replicate}
-use mathlib.Core.Bool.{true}
 use mathlib.Core.Path.{_≡_, sym, subst, _∙_, ap}
 use native.Mathlib.Omega.{arith}
 use Rattle.std.proofs.shelf.Tests.{eq-eqb, eqb-true}

@@ -1,7 +1,6 @@
 use Prim.Native.Nat.{_+_, _<_, _≤_}
-use mathlib.Core.Path.{sym, subst, _∙_}
+use mathlib.Core.Path.{sym, subst}
 use native.Mathlib.Omega.{arith}
-use lib.ListN.{length}
 use Rattle.linker.specs.Meanings.{listsIn}
 use Rattle.linker.specs.Turns.{NextPlace, Going}
 use Rattle.linker.proofs.Asked.{tabled-length, told-size}

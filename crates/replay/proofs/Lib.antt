@@ -1,0 +1,11 @@
+pub mod Agree
+pub mod AtHand
+pub mod Claims
+pub mod Laws
+pub mod Live
+pub mod Moments
+pub mod Passed
+pub mod Run
+pub mod Sound
+pub mod States
+pub mod Steps
