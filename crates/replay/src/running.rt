@@ -5,7 +5,8 @@ ghost use Rattle.replay.specs.Law.{Answered, Law};
 ghost use Rattle.replay.specs.State.{State};
 ghost use Rattle.std.specs.Of.Vec.{vec-items};
 ghost use Rattle.std.specs.Vec.{made};
-ghost use mathlib.Core.List.{List, []};
+ghost use mathlib.Core.List.{List, [], _∷_, _++_};
+ghost use mathlib.Core.Path.{_≡_};
 use crate::answering::respond;
 use crate::calls::Answer;
 use crate::calls::Call;
@@ -14,6 +15,14 @@ use level::Level;
 use sources::Source;
 use std::alloc::AllocError;
 use std::alloc::Global;
+
+// Writes an answer down behind the others.
+fn write_down(answers: &mut Vec<Answer>, answer: Answer) -> Result<(), AllocError>
+    ensures { λ r. ⌜ made r (λ _. vec-items (now (answers .exit)) ≡ vec-items (now (answers .entry)) ++ (answer ∷ [])) ⌝ }
+{
+    answers.push(answer)?;
+    Ok(())
+}
 
 // Makes the calls in their order, and keeps the claims that are granted and not shown.
 fn run(
@@ -27,7 +36,7 @@ fn run(
     let mut answers = Vec::new(heap);
     for call in calls {
         let answer = respond(heap, level, claims, call)?;
-        answers.push(answer)?;
+        write_down(&mut answers, answer)?;
     }
     Ok(answers)
 }

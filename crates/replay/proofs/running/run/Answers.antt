@@ -13,7 +13,7 @@ pub loop-call-again : need.loop-call-again
 loop-call-again c =
     led-more _ _ _ _ _ _ (c .args .calls .now) _ _ (c .loop-call .call-index) (c .call-item .result) (c .in-Continue-answer .answer)
     (getD-read (c .args .calls .now) (c .loop-call .call-index) (c .call-item .result) (c .loop-call-test .taken) (c .call-item .is) (Claim 0))
-    (c .in-Continue-push .ensures tt .items)
+    (c .in-Continue-write-down .ensures tt)
     (c .in-Continue-answer .ensures tt)
     (c .loop-call .inv)
 
