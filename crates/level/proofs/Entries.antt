@@ -2,16 +2,15 @@
 use Prim.Native.Nat.{ℕ, suc, zero, _+_, _<_, _≤_}
 use lib.Dec.{leb, ltb}
 use lib.ListN.{length, getD, take, drop, set}
-use mathlib.Core.Bool.{Bool, true, false, not, cond, _&&_, _||_}
+use mathlib.Core.Bool.{Bool, true, false, not, cond, _||_}
 use mathlib.Core.List.{List, [], _∷_, _++_}
-use mathlib.Core.Logic.{⊎-elim}
 use mathlib.Core.Path.{_≡_, refl, sym, ap, subst, _∙_}
 use native.Mathlib.Omega.{arith}
 use Rattle.std.specs.shelf.Lists.{leading}
 use Rattle.std.proofs.shelf.Lists.{take-more-set, take-all, drop-all, set-split, length-take-le, getD-take}
 use Rattle.std.proofs.shelf.Filters.{Keeping}
 use Rattle.std.proofs.shelf.Sums.{leading-drop-yes, leading-drop-no, leading-drop-all, leading-le-length}
-use Rattle.std.proofs.shelf.Tests.{lt-ltb, le-ltb, ltb-true, ltb-false, lt-leb, le-leb, leb-true, cond-true, cond-false, cases-lt, and-cases, both-ways}
+use Rattle.std.proofs.shelf.Tests.{lt-ltb, le-ltb, cond-true, cond-false}
 use Rattle.std.proofs.shelf.Ways.{tells}
 use Rattle.level.specs.Tables.{written, among, full, noted, added}
 

@@ -1,6 +1,6 @@
--- What a granted claim tells, and that it can be shown.
-use Prim.Native.Nat.{ℕ, _+_, _<_, _≤_}
-use lib.Dec.{eqb, leb}
+-- What granted calls tell, and that a granted claim can be shown.
+use Prim.Native.Nat.{ℕ, _+_, _<_}
+use lib.Dec.{leb}
 use lib.ListN.{length}
 use mathlib.Core.Bool.{Bool, true, false, not}
 use mathlib.Core.Path.{_≡_, refl, sym, ap, subst, _∙_}
@@ -14,11 +14,10 @@ use Rattle.std.proofs.shelf.Tests.{leb-false, eq-eqb}
 use Rattle.faults.specs.declared.Fault.{Fault}
 use Rattle.faults.specs.declared.Refusal.{Refusal}
 use Rattle.faults.specs.declared.Refusal.the-variants.{NoSuchDoor, NotHolder}
-use Rattle.matching.specs.Lists.{lawful}
 use Rattle.matching.proofs.Rows.{lawful-facts}
 use Rattle.level.specs.declared.Level.{Level}
 use Rattle.level.specs.declared.claims.Claim.{Claim}
-use Rattle.level.specs.declared.doors.DoorState.the-variants.{Open, Held, Struck}
+use Rattle.level.specs.declared.doors.DoorState.the-variants.{Open, Held}
 use Rattle.level.specs.Checks.{refuses, _or_, unknown, gone, held, spent, claimFault, showFault}
 use Rattle.level.specs.Edits.{Answers, claimed}
 use Rattle.level.specs.View.{View, view, state, isHeldBy, claim-door, claim-serial}
@@ -34,6 +33,10 @@ or-none (Some f) q e = absurd (none-some f e)
 pub refuses-none : (b : Bool) (r : Refusal) (d : ℕ) → refuses b r d ≡ None → b ≡ false
 refuses-none true r d e = absurd (none-some (record { refusal = r; layer = _; place = _ }) e)
 refuses-none false r d e = refl
+
+-- views are the same where all their parts are
+pub same-view : {v w : View} → v .lists ≡ w .lists → v .doors ≡ w .doors → v .granted ≡ w .granted → v .favours ≡ w .favours → v .pairs ≡ w .pairs → v .turn ≡ w .turn → v ≡ w
+same-view ls ds g fs ps t = λ i. record { lists = ls i; doors = ds i; granted = g i; favours = fs i; pairs = ps i; turn = t i }
 
 -- a claim is granted only on one of the level's doors
 pub claim-known : (v : View) (d : ℕ) → claimFault v d ≡ None → d < length (v .lists)

@@ -1,14 +1,13 @@
 -- Lists known by the places of their doors.
-use Prim.Native.Nat.{ℕ, _+_, _*_, _<_, _≤_}
-use lib.ListN.{length, getD, take}
-use mathlib.Core.List.{List, []}
-use mathlib.Core.Path.{_≡_, refl, sym, ap, subst, _∙_}
+use Prim.Native.Nat.{ℕ, _<_}
+use lib.ListN.{length, getD}
+use mathlib.Core.List.{List}
+use mathlib.Core.Path.{_≡_, refl, sym, subst, _∙_}
 use native.Mathlib.Omega.{arith}
 use Rattle.std.specs.declared.option.Option.the-variants.{Some}
 use Rattle.std.proofs.shelf.Lists.{ext-getD}
-use Rattle.matching.specs.Lists.{row, place, lawful, LawfulList, PlaceOf}
+use Rattle.matching.specs.Lists.{place, LawfulList, PlaceOf}
 use Rattle.matching.proofs.Rows.{place-view, place-from}
-use mathlib.Core.Bool.{true}
 
 -- lists of one length are the same where every door has the same place on both
 pub same-by-places : (n d : ℕ) (l m : List ℕ) → LawfulList n d l → length l ≡ length m → ((y : ℕ) → y < n → place l y ≡ place m y) → l ≡ m

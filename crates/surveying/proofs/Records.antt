@@ -1,11 +1,10 @@
 -- The record that a line says, part by part.
-use Prim.Native.Nat.{ℕ, _^_, _<_}
-use lib.Signed.{mag}
+use Prim.Native.Nat.{ℕ, _^_}
 use mathlib.Core.List.{List, _∷_, _++_}
-use mathlib.Core.Path.{_≡_, sym, ap, _∙_}
+use mathlib.Core.Path.{_≡_, sym, _∙_}
 use native.Mathlib.Omega.{arith}
 use Rattle.std.specs.Written.{decimal, signed}
-use Rattle.std.specs.declared.option.Option.the-variants.{Some, None}
+use Rattle.std.specs.declared.option.Option.the-variants.{None}
 use Rattle.survey.specs.declared.Record.{Record}
 use Rattle.surveying.specs.Survey.{recordText, InRange, ReadsRecord}
 use Rattle.text.specs.Reads.{Lacks, ReadsBelow, ReadsSigned16}

@@ -1,7 +1,7 @@
 -- What is said where a survey gives no lists.
 use Prim.Native.Nat.{ℕ}
 use lib.Chars.{codes}
-use mathlib.Core.List.{List, _∷_, _++_}
+use mathlib.Core.List.{List, _++_}
 use Rattle.faults.specs.Number.{number}
 use Rattle.faults.specs.declared.Fault.{Fault}
 use Rattle.faults.specs.declared.Layer.{Layer}

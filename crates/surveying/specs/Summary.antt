@@ -3,7 +3,7 @@ use Prim.Native.Nat.{ℕ, _/_}
 use lib.Chars.{codes}
 use lib.ListN.{length}
 use mathlib.Core.Bool.{Bool, cond}
-use mathlib.Core.List.{List, [], _∷_, _++_}
+use mathlib.Core.List.{List, _++_}
 use mathlib.Core.Path.{_≡_}
 use Rattle.codec.specs.Blocks.{baking, blockCheck, blockOf}
 use Rattle.std.specs.Iters.{counting}
@@ -28,6 +28,7 @@ counts ls file =
 abbrev pub checkLine : List ℕ → ℕ → List ℕ
 checkLine file block = codes "check " ++ (decimal block ++ (codes " " ++ (decimal (blockCheck (blockOf file block)) ++ codes "\n")))
 
+-- the checks of the first n blocks, a line each
 abbrev pub checkLines : List ℕ → ℕ → List ℕ
 checkLines file n = joined (checkLine file) (counting 0 n)
 

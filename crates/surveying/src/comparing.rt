@@ -1,5 +1,4 @@
 // Two sources compared, and one counted.
-ghost use Prim.Native.Nat.{_≤_};
 ghost use lib.ListN.{length};
 ghost use mathlib.Core.Path.{_≡_};
 ghost use Rattle.codec.specs.Blocks.{baking};

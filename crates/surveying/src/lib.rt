@@ -10,3 +10,6 @@ pub use reading::SurveyError;
 pub use reading::rank_survey;
 pub use report::summary;
 pub use writing::level_file;
+
+// The bytes of a block of a level file.
+const BLOCK: usize = 512;

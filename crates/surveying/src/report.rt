@@ -5,14 +5,12 @@ ghost use mathlib.Core.Path.{_≡_};
 ghost use Rattle.std.specs.Of.String.{string-bytes};
 ghost use Rattle.std.specs.Vec.{made};
 ghost use Rattle.surveying.specs.Summary.{blocksOf, checkLine, checkLines, counts, Summary};
+use crate::BLOCK;
 use crate::comparing::listed;
 use crate::comparing::reads_back;
 use sources::Source;
 use std::alloc::AllocError;
 use std::alloc::Global;
-
-// The bytes of a block.
-const BLOCK: usize = 512;
 
 // The lines with the numbers of doors, of listed doors and of blocks.
 fn count_lines<S: Source>(heap: Global, source: &S, file: &[u8]) -> Result<String, AllocError>

@@ -3,12 +3,10 @@ ghost use mathlib.Core.Path.{_≡_};
 ghost use Rattle.codec.specs.Blocks.{baking};
 ghost use Rattle.std.specs.Of.Vec.{vec-items};
 ghost use Rattle.std.specs.Vec.{made};
+use crate::BLOCK;
 use sources::Source;
 use std::alloc::AllocError;
 use std::alloc::Global;
-
-// The bytes of a block.
-const BLOCK: usize = 512;
 
 // The level file of a source's lists.
 pub fn level_file<S: Source>(heap: Global, source: &S) -> Result<Vec<u8>, AllocError>

@@ -1,6 +1,5 @@
 -- A list cut at the first byte that is a mark.
-use Prim.Native.Nat.{ℕ, zero, suc, _+_, _-_, _^_, _<_, _≤_}
-use denote.Ref.{RefT}
+use Prim.Native.Nat.{ℕ, zero, suc, _+_, _-_, _^_, _<_}
 use lib.IntN.{ℤ, pos, negsuc}
 use lib.ListN.{length, getD, drop, take}
 use lib.Signed.{mag}
@@ -9,13 +8,10 @@ use mathlib.Core.Path.{_≡_, refl, sym, ap, _∙_}
 use native.Mathlib.Nat.{sub-zero}
 use native.Mathlib.Omega.{arith}
 use Rattle.std.proofs.shelf.Lists.{take-append-drop, drop-more, take-rest, getD-take, length-take-le}
-use Rattle.std.specs.Options.{Cases}
 use Rattle.std.specs.Written.{decimal, signed}
-use Rattle.std.specs.declared.option.Option.{Option}
-use Rattle.std.specs.declared.option.Option.the-variants.{Some, None}
 use Rattle.std.proofs.shelf.Decimals.{decimal-reads}
 use Rattle.std.proofs.shelf.Numerals.{digit-at}
-use Rattle.text.specs.Reads.{Lacks, SplitsAt}
+use Rattle.text.specs.Reads.{Lacks}
 
 pub cut-at : (bs : List ℕ) (i mark : ℕ) → i < length bs → getD bs i 0 ≡ mark → ((k : ℕ) → k < i → getD bs k 0 ≡ mark → ⊥)
     → (bs ≡ take (i - 0) bs ++ (mark ∷ take (length bs - (i + 1)) (drop (i + 1) bs))) × Lacks mark (take (i - 0) bs)
@@ -41,15 +37,10 @@ one-cut mark (c ∷ a) b (c′ ∷ a′) b′ e h h′ =
     let first : c ≡ c′ = cc in
     ((λ i. first i ∷ rest .0 i), rest .1)
 
+-- a list with a mark does not lack it
 pub has-mark : (mark : ℕ) (a b : List ℕ) → Lacks mark (a ++ (mark ∷ b)) → ⊥
 has-mark mark [] b h = h 0 (omega arith) refl
 has-mark mark (c ∷ a) b h = has-mark mark a b (lacks-rest mark c (a ++ (mark ∷ b)) h)
-
--- where a text is one part, the mark and another part, the split finds just these
-pub split-finds : (mark : ℕ) (bs a b : List ℕ) (r : Option (RefT (List ℕ) × RefT (List ℕ))) → bs ≡ a ++ (mark ∷ b) → Lacks mark a → SplitsAt mark bs r
-    → Cases r ⊥ (λ p. (p .0 .now ≡ a) × (p .1 .now ≡ b))
-split-finds mark bs a b None e h s = has-mark mark a b (rw e at s)
-split-finds mark bs a b (Some p) e h s = one-cut mark (p .0 .now) (p .1 .now) a b (sym (s .0) ∙ e) (s .1) h
 
 -- what is written of a number holds no byte below the digits but the sign
 pub decimal-lacks : (mark n : ℕ) → mark < 48 → n < 2 ^ 64 → Lacks mark (decimal n)

@@ -1,11 +1,11 @@
 -- Numbers cut down to a smaller type, and numbers with a sign.
-use Prim.Native.Nat.{ℕ, suc, _+_, _-_, _<_, _≤_, _^_}
+use Prim.Native.Nat.{ℕ, suc, _-_, _<_, _≤_, _^_}
 use lib.IntN.{ℤ, pos, negsuc}
 use lib.ListN.{length, getD, drop, take}
 use lib.Signed.{mag}
-use mathlib.Core.List.{List, [], _∷_}
+use mathlib.Core.List.{List, _∷_}
 use mathlib.Core.Logic.{⊎-elim}
-use mathlib.Core.Path.{_≡_, refl, sym, ap, subst, _∙_}
+use mathlib.Core.Path.{_≡_, sym, ap, subst, _∙_}
 use mir.Syntax.{w16}
 use mir.Val.{SFits}
 use native.Mathlib.Omega.{arith}

@@ -2,7 +2,7 @@
 use Prim.Native.Nat.{ℕ, suc, _+_, _^_, _<_, _≤_}
 use lib.Dec.{eqb, ltb}
 use lib.ListN.{length, getD, drop}
-use mathlib.Core.Bool.{Bool, true, false, cond}
+use mathlib.Core.Bool.{Bool, false, cond}
 use mathlib.Core.List.{List, [], _∷_, _++_}
 use mathlib.Core.Logic.{_⊎_, inl, inr}
 use mathlib.Core.Path.{_≡_, refl, sym, ap, _∙_}
@@ -15,10 +15,6 @@ use Rattle.std.proofs.shelf.Elements.{all-append}
 use Rattle.std.proofs.shelf.Lists.{append-assoc, append-nil, length-append, drop-more, drop-all}
 use Rattle.std.proofs.shelf.Tests.{cond-both}
 use Rattle.text.specs.Lines.{spaced, entry, entries, extended, linkingLine}
-
-pub first-word : (l w : List ℕ) → length l ≡ 0 → extended l (w ∷ []) ≡ l ++ w
-first-word [] w e = refl
-first-word (c ∷ cs) w e = absurd (omega arith)
 
 pub later-word : (l w : List ℕ) → (length l ≡ 0 → ⊥) → extended l (w ∷ []) ≡ (l ++ (32 ∷ [])) ++ w
 later-word [] w h = absurd (h refl)

@@ -2,7 +2,7 @@
 use Prim.Native.Nat.{ℕ, suc}
 use lib.Chars.{codes}
 use lib.Dec.{eqb, ltb}
-use mathlib.Core.Bool.{Bool, true, false, cond}
+use mathlib.Core.Bool.{Bool, cond}
 use mathlib.Core.List.{List, [], _∷_, _++_}
 use Rattle.faults.specs.Number.{number}
 use Rattle.faults.specs.declared.Fault.{Fault}

@@ -3,13 +3,14 @@ ghost use mathlib.Core.List.{[], _∷_};
 ghost use mathlib.Core.Path.{_≡_};
 ghost use Rattle.std.specs.Of.String.{string-bytes};
 ghost use Rattle.std.specs.Vec.{made};
-ghost use Rattle.text.specs.Lines.{entries, entry, extended, linkingLine};
+ghost use Rattle.text.specs.Lines.{entry, extended, linkingLine};
 use std::alloc::AllocError;
 use std::alloc::Global;
 
 // Stands for 'no partner' in a linking.
 const UNLINKED: u16 = 65535;
 
+// Adds a word after one space; a first word stands alone.
 fn add_word(line: &mut String, word: &str) -> Result<(), AllocError>
     ensures { λ r. ⌜ made r (λ _. string-bytes (now (line .exit)) ≡ extended (string-bytes (now (line .entry))) (now (word .entry) ∷ [])) ⌝ }
 {
@@ -20,6 +21,7 @@ fn add_word(line: &mut String, word: &str) -> Result<(), AllocError>
     line.push_str(word)
 }
 
+// Adds what a linking says at a standing door.
 fn add_entry(heap: Global, line: &mut String, door: usize, partner: u16) -> Result<(), AllocError>
     ensures { λ r. ⌜ made r (λ _. string-bytes (now (line .exit)) ≡ extended (string-bytes (now (line .entry))) (entry door partner)) ⌝ }
 {

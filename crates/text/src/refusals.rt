@@ -17,6 +17,7 @@ pub fn refused_line(heap: Global, refusal: Refusal) -> Result<String, AllocError
     format!(heap, "no {number}")
 }
 
+// The block and byte that a line names.
 fn block_byte(place: Place) -> (u8, u16)
     ensures { λ r. ⌜ r ≡ blockByte place ⌝ }
 {

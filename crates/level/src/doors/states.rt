@@ -1,5 +1,4 @@
 // Reading and writing the state of a door.
-ghost use Prim.Native.Nat.{ℕ};
 ghost use lib.ListN.{getD, replicate, set};
 ghost use mathlib.Core.Path.{_≡_};
 use super::DoorState;

@@ -1,4 +1,3 @@
-use Prim.Native.Nat.{_+_, _≤_}
 use lib.ListN.{length}
 use Rattle.std.specs.Of.Vec.{vec-items}
 use Rattle.surveying.proofs.Lines.{ReadTo}

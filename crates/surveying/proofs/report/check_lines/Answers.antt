@@ -1,6 +1,6 @@
 use mathlib.Core.List.{_++_}
 use mathlib.Core.Path.{ap, _∙_}
-use Rattle.surveying.specs.Summary.{checkLine, checkLines}
+use Rattle.surveying.specs.Summary.{checkLines}
 use Rattle.surveying.proofs.Checks.{checks-more}
 use Rattle.surveying.proofs.report.check_lines.Needs as need
 

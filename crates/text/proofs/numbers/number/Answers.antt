@@ -1,4 +1,3 @@
-use native.Mathlib.Omega.{arith}
 use borrow.Author.Needs.{needs}
 use Rattle.text.proofs.Numerals.{none-written, zero-written, written-from-value}
 use Rattle.text.proofs.numbers.number.Needs as need

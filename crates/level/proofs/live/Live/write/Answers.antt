@@ -1,5 +1,5 @@
-use lib.ListN.{length, take, set}
-use mathlib.Core.Path.{_∙_, sym, ap, subst, _≡_}
+use lib.ListN.{take}
+use mathlib.Core.Path.{_∙_, ap}
 use native.Mathlib.Omega.{arith}
 use Rattle.std.proofs.shelf.Lists.{length-take-le}
 use Rattle.level.specs.Tables.{written}

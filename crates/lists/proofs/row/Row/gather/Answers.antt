@@ -1,9 +1,9 @@
-use mathlib.Core.Path.{sym, _∙_, ap}
+use mathlib.Core.Path.{_∙_, ap}
 use native.Mathlib.Omega.{arith}
 use lib.ListN.{take}
 use mathlib.Core.List.{_++_}
 use Rattle.matching.specs.Lists.{without}
-use Rattle.lists.proofs.Edited.{Gathered, gathered-none, gathered-other, gathered-same}
+use Rattle.lists.proofs.Edited.{gathered-none, gathered-other, gathered-same}
 use Rattle.lists.proofs.row.Row.gather.Needs as need
 use Rattle.lists.proofs.row.Row.gather.Needs.{then-door-other, else-door-other}
 

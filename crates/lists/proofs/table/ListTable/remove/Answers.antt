@@ -1,9 +1,8 @@
 use Prim.Native.Nat.{_-_}
 use lib.ListN.{set, take}
-use mathlib.Core.Path.{sym, _∙_, ap, subst}
+use mathlib.Core.Path.{_≡_, sym, _∙_, ap}
 use native.Mathlib.Numerals.{unary-clauses}
 use native.Mathlib.Omega.{arith}
-use mathlib.Core.Path.{_≡_}
 use Rattle.std.proofs.shelf.Lists.{set-past}
 use Rattle.matching.specs.Lists.{row, without}
 use Rattle.lists.specs.Rows.{row-list}
