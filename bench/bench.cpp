@@ -1,17 +1,16 @@
-// The proved linkers against hand-written ones, on the same lists, in one run. Prints ratios of times.
+// The proved linkers against hand-written ones, on the same lists, in one run. Prints ratios of times. The argument is the proved program
+// `timing`, which is run on each level file.
 #include <algorithm>
 #include <chrono>
 #include <cstdint>
 #include <cstdio>
 #include <cstring>
+#include <fstream>
+#include <map>
 #include <random>
+#include <sstream>
+#include <string>
 #include <vector>
-
-// The proved library: `rounds` linkings over a source that is made once. `layer` 0: the file; 1: a level over it; 2: a level with edits.
-extern "C" uint32_t hoginstant_link(const uint8_t* file, size_t file_len, uint8_t layer, uint32_t rounds, uint16_t* out, size_t out_len,
-                                    uint16_t* memory, size_t memory_len);
-extern "C" uint32_t hoginstant_one_way(const uint8_t* file, size_t file_len, uint8_t layer, uint32_t rounds, const uint8_t* sides,
-                                       size_t sides_len, uint16_t* out, size_t out_len, uint16_t* memory, size_t memory_len);
 
 namespace {
 
@@ -210,68 +209,78 @@ double best(F run) {
   return least;
 }
 
-// Time of one round of the proved library: many rounds less one, so that making the source does not count.
-template <class F>
-double proved(F rounds) {
-  constexpr uint32_t many = 201;
-  return (best([&] { rounds(many); }) - best([&] { rounds(1); })) / (many - 1);
+// What the proved program prints for the file in the current folder, a line for each layer and linker.
+std::map<std::string, std::string> proved(const std::string& timing, int rounds) {
+  std::map<std::string, std::string> lines;
+  FILE* pipe = popen((timing + " " + std::to_string(rounds)).c_str(), "r");
+  std::string text;
+  for (int c; pipe && (c = std::fgetc(pipe)) != EOF;) text += char(c);
+  if (pipe) pclose(pipe);
+  std::istringstream in(text);
+  for (std::string line; std::getline(in, line);) {
+    std::istringstream words(line);
+    std::string layer, linker, rest;
+    words >> layer >> linker;
+    std::getline(words >> std::ws, rest);
+    lines[layer + " " + linker] = rest;
+  }
+  return lines;
+}
+
+// A linking as the proved program prints it.
+std::string shown(bool linked, const std::vector<uint16_t>& out) {
+  if (!linked) return "none";
+  std::string text;
+  for (uint16_t y : out) text += (text.empty() ? "" : " ") + std::to_string(y);
+  return text;
 }
 
 bool all_same = true;
 
-void same(bool b, const char* what) {
-  if (!b) {
-    std::printf("DIFFERENT RESULTS: %s\n", what);
-    all_same = false;
-  }
-}
-
-void measure(std::mt19937& random, const char* name, int percent, uint8_t layer) {
-  std::vector<uint16_t> out(kMost), mine(kMost), memory(3 * kMost * kMost + 8 * kMost), work(memory.size());
+void compare(const char* name, int percent, std::mt19937& random, const std::string& timing) {
+  constexpr int cases = 8, rounds = 2000;
+  const char* layers[] = {"file", "level", "edited"};
+  double ratio[3][2] = {}, micros[3][2] = {};
+  std::vector<uint16_t> out(kMost), work(3 * kMost * kMost + 8 * kMost);
   std::vector<uint8_t> sides(kMost);
   for (int x = 0; x < kMost; ++x) sides[x] = x % 2;
-  double link_ratio = 0, one_ratio = 0, link_time = 0, one_time = 0;
-  constexpr int cases = 8;
   for (int c = 0; c < cases; ++c) {
     const Lists base = random_lists(random, percent);
     const auto file = bake(base);
-    Lists lists = base;
-    if (layer == 2) edit(lists);
-    std::fill(out.begin(), out.end(), 1);
-    std::fill(mine.begin(), mine.end(), 1);
-    auto run = [&](uint32_t rounds) {
-      return hoginstant_link(file.data(), file.size(), layer, rounds, out.data(), out.size(), memory.data(), memory.size());
-    };
-    const bool stable = link(lists, mine.data(), work.data());
-    same((run(1) == 0) == stable && (!stable || out == mine), "link");
-    const double p = proved(run);
-    const double h = best([&] { for (int i = 0; i < 200; ++i) link(lists, mine.data(), work.data()); }) / 200;
-    link_ratio += p / h / cases;
-    link_time += p / cases;
-    auto run_one = [&](uint32_t rounds) {
-      return hoginstant_one_way(file.data(), file.size(), layer, rounds, sides.data(), sides.size(), out.data(), out.size(), memory.data(),
-                                memory.size());
-    };
-    const uint32_t count = one_way(lists, sides.data(), mine.data(), work.data());
-    same(run_one(1) == count && out == mine, "one-way");
-    const double po = proved(run_one);
-    const double ho = best([&] { for (int i = 0; i < 200; ++i) one_way(lists, sides.data(), mine.data(), work.data()); }) / 200;
-    one_ratio += po / ho / cases;
-    one_time += po / cases;
+    std::ofstream("level.door", std::ios::binary).write(reinterpret_cast<const char*>(file.data()), file.size());
+    auto results = proved(timing, 0);
+    auto times = proved(timing, rounds);
+    for (int layer = 0; layer < 3; ++layer) {
+      Lists lists = base;
+      if (layer == 2) edit(lists);
+      const std::string link_key = std::string(layers[layer]) + " link", one_key = std::string(layers[layer]) + " one-way";
+      const bool linked = link(lists, out.data(), work.data());
+      bool same = results[link_key] == shown(linked, out);
+      const double by_hand = best([&] { for (int i = 0; i < 200; ++i) link(lists, out.data(), work.data()); }) / 200;
+      one_way(lists, sides.data(), out.data(), work.data());
+      same = same && results[one_key] == shown(true, out);
+      const double one_by_hand = best([&] { for (int i = 0; i < 200; ++i) one_way(lists, sides.data(), out.data(), work.data()); }) / 200;
+      if (!same) std::printf("DIFFERENT RESULTS: %s, %s, case %d\n", name, layers[layer], c);
+      all_same = all_same && same;
+      const double link_time = std::stod(times[link_key]) * 1e-9, one_time = std::stod(times[one_key]) * 1e-9;
+      ratio[layer][0] += link_time / by_hand / cases;
+      ratio[layer][1] += one_time / one_by_hand / cases;
+      micros[layer][0] += link_time * 1e6 / cases;
+      micros[layer][1] += one_time * 1e6 / cases;
+    }
   }
-  const char* layers[] = {"file", "level", "level with edits"};
-  std::printf("%-9s %-17s link %5.2f x (%6.1f us)   one-way %5.2f x (%6.1f us)\n", name, layers[layer], link_ratio, link_time * 1e6, one_ratio,
-              one_time * 1e6);
+  for (int layer = 0; layer < 3; ++layer)
+    std::printf("%-9s %-7s link %5.2f x (%6.1f us)   one-way %5.2f x (%6.1f us)\n", name, layers[layer], ratio[layer][0], micros[layer][0],
+                ratio[layer][1], micros[layer][1]);
 }
 
 }  // namespace
 
-int main() {
+int main(int argc, char** argv) {
+  if (argc != 2) return std::printf("usage: bench TIMING\n"), 2;
   std::mt19937 random(20261117);
-  for (uint8_t layer = 0; layer < 3; ++layer) {
-    measure(random, "complete", 100, layer);
-    measure(random, "half", 50, layer);
-    measure(random, "sparse", 10, layer);
-  }
+  compare("complete", 100, random, argv[1]);
+  compare("half", 50, random, argv[1]);
+  compare("sparse", 10, random, argv[1]);
   return all_same ? 0 : 1;
 }

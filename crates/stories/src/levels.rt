@@ -1,4 +1,5 @@
 // Stories of levels.
+use crate::everybody::everybody;
 use faults::Fault;
 use level::Level;
 use level::LevelSource;
@@ -20,23 +21,6 @@ fn four_doors() -> ListTable {
     table.put(1, &[2, 0, 3]);
     table.put(2, &[0, 1, 3]);
     table.put(3, &[0, 1, 2]);
-    table
-}
-
-// Doors that all list each other, in rising order.
-fn everybody(count: u8) -> ListTable {
-    let mut table = ListTable::empty(count);
-    let mut list = [0u8; 96];
-    for door in 0..count.min(96) {
-        let mut len = 0usize;
-        for other in 0..count.min(96) {
-            if other != door && len < 96 {
-                list[len] = other;
-                len += 1;
-            }
-        }
-        table.put(door, &list[0..len.min(96)]);
-    }
     table
 }
 
@@ -130,7 +114,7 @@ fn pairs_granted(level: &mut Level, first: u8, until: u8) -> u8 {
 
 #[test]
 fn sixty_four_favours_are_live() -> Result<(), Fail> {
-    let mut level = Level::new(&everybody(96));
+    let mut level = Level::new(&everybody());
     check_eq(favours_granted(&mut level, 1, 65), 64)?;
     check_eq(number(level.favour(0, 70)), 6)?;
     check_eq(number(level.favour(0, 1)), 0).note("a live favour needs no place")?;
@@ -144,7 +128,7 @@ fn sixty_four_favours_are_live() -> Result<(), Fail> {
 
 #[test]
 fn sixty_four_pairs_are_live() -> Result<(), Fail> {
-    let mut level = Level::new(&everybody(96));
+    let mut level = Level::new(&everybody());
     check_eq(pairs_granted(&mut level, 1, 65), 64)?;
     check_eq(number(level.forbid(0, 70)), 6)?;
     check_eq(number(level.forbid(1, 0)), 0).note("a live pair needs no place")?;

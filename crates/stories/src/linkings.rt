@@ -1,5 +1,6 @@
 // One-way linkings over piles of sources.
-use faults::Fault;
+use crate::everybody::everybody;
+use linker::link;
 use linker::one_way_link;
 use lists::ListTable;
 use sources::FileAsSource;
@@ -39,6 +40,9 @@ fn six_doors() -> ListTable {
 
 const NONE: u16 = 65535;
 
+// Doors 1 and 5 are linked, the others are not.
+const ONE_PAIR: [u16; 6] = [NONE, 5, NONE, NONE, NONE, 1];
+
 #[test]
 fn six_doors_are_linked() -> Result<(), Fail> {
     let doors = six_doors();
@@ -60,7 +64,9 @@ fn linkings_over_layers() -> Result<(), Fail> {
         },
         reach: 1,
     };
-    check_eq(six(&file, [0, 0, 0, 1, 1, 1]), (0, [NONE; 6])).note("nobody's first lists it first")?;
+    check_eq(six(&file, [0, 0, 0, 1, 1, 1]), (1, ONE_PAIR)).note(
+        "only 1 and 5 list each other first",
+    )?;
     let arch = Record {
         east: 0,
         north: 0,
@@ -76,24 +82,54 @@ fn linkings_over_layers() -> Result<(), Fail> {
     ).note("everybody lists the lowest numbers")
 }
 
-// The proposals among 96 doors that all list each other in rising order, the even ones exits.
-fn most_doors(heap: Global) -> Result<u16, Fail> {
-    let mut table = ListTable::empty(96);
-    let mut list = [0u8; 95];
+// Even doors are exits, odd ones entrances.
+fn alternate() -> [u8; 96] {
     let mut sides = [0u8; 96];
     for door in 0..96u8 {
-        for k in 0..95u8 {
-            list[k as usize] = if k < door { k } else { k + 1 };
-        }
-        table.put(door, &list);
         sides[door as usize] = door % 2;
     }
+    sides
+}
+
+// The proposals among 96 doors that all list each other in rising order.
+fn most_doors(heap: Global) -> Result<u16, Fail> {
+    let sides = alternate();
     let mut out = [0u16; 96];
     let mut memory = vec![in heap; 0u16; 28416]?;
-    match one_way_link(&table, &sides, &mut out, memory.as_mut_slice()) {
+    match one_way_link(&everybody(), &sides, &mut out, memory.as_mut_slice()) {
         Ok(count) => Ok(count),
         Err(_) => Ok(0),
     }
+}
+
+// The linking of six doors, or the refusal's number and an output as it was.
+fn linked<S: Source>(source: &S) -> (u16, [u16; 6]) {
+    let mut out = [7u16; 6];
+    let mut memory = [0u16; 156];
+    match link(source, &mut out, &mut memory) {
+        Ok(()) => (0, out),
+        Err(fault) => (u16::from(fault.refusal.number()), out),
+    }
+}
+
+#[test]
+fn all_doors_are_linked() -> Result<(), Fail> {
+    check_eq(linked(&six_doors()), (0, [4, 5, 3, 2, 0, 1]))?;
+    check_eq(
+        linked(
+            &Reach {
+                below: six_doors(),
+                reach: 1,
+            },
+        ),
+        (0, [NONE; 6]),
+    )?;
+    let mut ring = ListTable::empty(6);
+    ring.put(0, &[1, 2]);
+    ring.put(1, &[2, 0]);
+    ring.put(2, &[0, 1]);
+    check_eq(linked(&ring), (9, [7; 6]))?;
+    check_eq(linked(&ListTable::empty(5)), (7, [7; 6]))
 }
 
 #[test]
