@@ -122,7 +122,7 @@ fn all_doors_are_linked() -> Result<(), Fail> {
                 reach: 1,
             },
         ),
-        (0, [NONE; 6]),
+        (0, ONE_PAIR),
     )?;
     let mut ring = ListTable::empty(6);
     ring.put(0, &[1, 2]);
