@@ -1,0 +1,2 @@
+mod Buffered
+mod Parsed
