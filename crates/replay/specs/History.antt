@@ -24,6 +24,7 @@ pub data Deed : Type 0 where
   forbade : ℕ → ℕ → Deed
   favoured : ℕ → ℕ → Deed
 
+-- a history: deeds, the newest first
 abbrev pub History : Type 0
 History = List Deed
 
@@ -58,10 +59,11 @@ deeds c NotShown = []
 deeds c (OneWayDone p o) = []
 deeds c (LinkDone r o) = []
 
--- call i of a run, counted from 0, and its answer
+-- call i of a run, counted from 0
 abbrev pub call : List Call → ℕ → Call
 call calls i = getD calls i (Claim 0)
 
+-- and its answer
 abbrev pub said : List Answer → ℕ → Answer
 said answers i = getD answers i NotShown
 

@@ -52,10 +52,11 @@ pair-fault n h a b =
     refuses (leb n a) NoSuchDoor a or refuses (leb n b) NoSuchDoor b or refuses (eqb a b) SameDoor b or refuses (gone h a) DoorGone a or refuses (gone h b) DoorGone b
     or refuses (held h a) DoorHeld a or refuses (held h b) DoorHeld b
 
--- and those of each: the table of live ones is full, and before that of a favour, b is not on the list of a
+-- the checks of a forbid: the shared ones, and then whether the table of live pairs is full
 abbrev pub forbid-fault : ℕ → History → ℕ → ℕ → Option Fault
 forbid-fault n h a b = pair-fault n h a b or refuses (full (either a b) (forbidden h)) TableFull a
 
+-- the checks of a favour: the shared ones, whether b is on the list of a, and then whether the table of live favours is full
 abbrev pub favour-fault : List (List ℕ) → History → ℕ → ℕ → Option Fault
 favour-fault ls h a b =
     pair-fault (length ls) h a b or refuses (not (isSome (place (row (lists ls h) a) b))) NotListed b or refuses (full (this a b) (favours h)) TableFull a
@@ -117,6 +118,7 @@ pub record Moment (ls : List (List ℕ)) (h : History) : Type 0 where
   pub pairs : (a b : ℕ) → among (either a b) (forbidden h) ≡ (forbade-ever h a b && not (gone h a) && not (gone h b))
   -- a favour is live while both doors stand and the pair is not forbidden
   pub liked : (a b : ℕ) → among (this a b) (favours h) ≡ (favoured-ever h a b && not (gone h a) && not (gone h b) && not (forbade-ever h a b))
+  -- each live one is in its table once
   pub pair-table : Table either (forbidden h)
   pub favour-table : Table this (favours h)
 
@@ -166,11 +168,12 @@ pub record Law (ls : List (List ℕ)) (calls : List Call) (answers : List Answer
   pub refused : (i : ℕ) (f : Fault) → i < length calls → said answers i ≡ Refused f → Same ls (before calls answers i) (before calls answers (suc i))
   -- where a claim cannot be shown, nothing is done
   pub unshown : (i : ℕ) → i < length calls → said answers i ≡ NotShown → before calls answers (suc i) ≡ before calls answers i
-  -- a linking, of all doors or one way, changes nothing, and where it is refused, the output is as it was
+  -- a linking of all doors changes nothing, and where it is refused, the output is as it was
   pub linked : (i : ℕ) (r : Result (Unit {0}) Fault) (output : Vec ℕ Global) → i < length calls → said answers i ≡ LinkDone r output
       → before calls answers (suc i) ≡ before calls answers i
   pub kept : (i : ℕ) (output after : Vec ℕ Global) (memory : ℕ) (f : Fault) → i < length calls → call calls i ≡ Link output memory → said answers i ≡ LinkDone (Err f) after
       → vec-items after ≡ vec-items output
+  -- and so does a one-way linking
   pub one-way-linked : (i : ℕ) (r : Result ℕ Fault) (output : Vec ℕ Global) → i < length calls → said answers i ≡ OneWayDone r output
       → before calls answers (suc i) ≡ before calls answers i
   pub one-way-kept : (i : ℕ) (sides output after : Vec ℕ Global) (memory : ℕ) (f : Fault) → i < length calls → call calls i ≡ OneWay sides output memory → said answers i ≡ OneWayDone (Err f) after

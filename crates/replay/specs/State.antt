@@ -41,13 +41,15 @@ abbrev pub hold : ℕ → DoorState
 hold zero = Open
 hold (suc k) = Held (suc k)
 
+-- the state of door d that the history tells
 abbrev pub stateOf : History → ℕ → DoorState
 stateOf h d = cond (gone h d) Struck (hold (holder h d))
 
--- the two doors of a record
+-- the two doors of a favour
 abbrev pub of-favour : FavourRecord → Doors
 of-favour f = (f .first, f .second)
 
+-- and of a forbidden pair
 abbrev pub of-pair : Pair → Doors
 of-pair p = (p .first, p .second)
 
@@ -70,11 +72,12 @@ pub record Tokens (h : History) (ts : List (Option Claim)) : Type 0 where
   pub size : length ts ≡ granted h
   pub each : (j : ℕ) → j < granted h → AtHand h (suc j) (getD ts j None)
 
--- the k-th claim, if it is at hand, and what is left when it is taken
+-- the k-th claim, if it is at hand
 abbrev pub token : List (Option Claim) → ℕ → Option Claim
 token ts zero = None
 token ts (suc j) = getD ts j None
 
+-- what is left when it is taken
 abbrev pub spent : List (Option Claim) → ℕ → List (Option Claim)
 spent ts zero = ts
 spent ts (suc j) = set ts j None

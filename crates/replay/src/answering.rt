@@ -27,6 +27,7 @@ fn answer(result: Result<(), Fault>) -> Answer
     }
 }
 
+// Claims a door, and keeps the claim at hand.
 fn claim(level: &mut Level, claims: &mut Vec<Option<Claim>>, door: u8) -> Result<Answer, AllocError>
     ensures { λ r. ⌜ made r (λ a. Keeps (view (now (level .entry))) (vec-items (now (claims .entry))) (Call.Claim door) a (view (now (level .exit))) (vec-items (now (claims .exit)))) ⌝ }
 {
@@ -40,6 +41,7 @@ fn claim(level: &mut Level, claims: &mut Vec<Option<Claim>>, door: u8) -> Result
     }
 }
 
+// Gives back the claim with this number, if it is at hand.
 fn release(level: &mut Level, claims: &mut Vec<Option<Claim>>, number: u32) -> Answer
     ensures { λ r. ⌜ Keeps (view (now (level .entry))) (vec-items (now (claims .entry))) (Call.Release number) r (view (now (level .exit))) (vec-items (now (claims .exit))) ⌝ }
 {
@@ -49,6 +51,7 @@ fn release(level: &mut Level, claims: &mut Vec<Option<Claim>>, number: u32) -> A
     }
 }
 
+// Strikes with the claim of this number, if it is at hand.
 fn strike(level: &mut Level, claims: &mut Vec<Option<Claim>>, number: u32) -> Answer
     ensures { λ r. ⌜ Keeps (view (now (level .entry))) (vec-items (now (claims .entry))) (Call.Strike number) r (view (now (level .exit))) (vec-items (now (claims .exit))) ⌝ }
 {

@@ -1,0 +1,5 @@
+pub mod Cuts
+pub mod Ledgers
+pub mod Runs
+pub mod Tallies
+pub mod Texts
