@@ -6,11 +6,10 @@ use mathlib.Core.Path.{_≡_, sym, ap, subst, _∙_}
 use native.Mathlib.Omega.{arith}
 use Rattle.std.proofs.shelf.Lists.{take-rest}
 use Rattle.std.specs.Written.{decimal}
-use Rattle.std.specs.declared.option.Option.the-variants.{Some, None}
+use Rattle.std.specs.declared.option.Option.the-variants.{None}
 use Rattle.text.specs.Reads.{Lacks, ReadsBelow}
 use Rattle.text.proofs.Cuts.{one-cut, has-mark, decimal-lacks}
-use Rattle.commands.specs.Written.{commandText, Bytes, ReadsCommand, ReadsPair}
-use Rattle.commands.specs.declared.reading.Command.{Command}
+use Rattle.commands.specs.Written.{ReadsCommand, ReadsPair}
 use Rattle.commands.specs.declared.reading.Command.the-variants.{Strike, Forbid, Favour, Link}
 
 -- two numbers have a space between them

@@ -17,6 +17,21 @@ fn reply(rt: &LibcRuntime, level: &mut Level, line: &mut LineBuffer) -> io::Resu
     println!(rt, "{text}")
 }
 
+// Takes the bytes that came, and answers each line that they end.
+fn hear(
+    rt: &LibcRuntime,
+    level: &mut Level,
+    line: &mut LineBuffer,
+    bytes: &[u8],
+) -> io::Result<()> {
+    for byte in bytes {
+        if line.feed(*byte) {
+            reply(rt, level, line)?;
+        }
+    }
+    Ok(())
+}
+
 // Answers each line as it comes. The last may lack its end.
 fn converse(rt: &LibcRuntime, level: &mut Level) -> io::Result<()> {
     let mut line = LineBuffer::new();
@@ -27,11 +42,7 @@ fn converse(rt: &LibcRuntime, level: &mut Level) -> io::Result<()> {
         if count == 0 {
             break;
         }
-        for byte in &chunk[0..count] {
-            if line.feed(*byte) {
-                reply(rt, level, &mut line)?;
-            }
-        }
+        hear(rt, level, &mut line, &chunk[0..count])?;
     }
     if line.is_empty() {
         return Ok(());

@@ -1,5 +1,4 @@
 // Filling a line and looking at it.
-ghost use lib.Dec.{eqb};
 ghost use mathlib.Core.List.{[]};
 ghost use mathlib.Core.Path.{_≡_};
 ghost use Rattle.std.specs.Options.{mapped};

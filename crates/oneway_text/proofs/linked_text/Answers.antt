@@ -1,7 +1,7 @@
 use lib.ListN.{length, replicate}
 use mathlib.Core.Bool.{true}
 use mathlib.Core.List.{[]}
-use mathlib.Core.Path.{_≡_, sym, ap, _∙_}
+use mathlib.Core.Path.{_≡_, ap, _∙_}
 use Rattle.std.specs.Of.String.{string-bytes}
 use Rattle.text.specs.Lines.{linkingLine}
 use Rattle.oneway_text.proofs.linked_text.Needs as need

@@ -1,18 +1,11 @@
-use Prim.Native.Nat.{_+_, _*_, _≤_}
-use lib.ListN.{length, getD}
-use mathlib.Core.Logic.{inl, inr, ⊎-elim}
-use mathlib.Core.Path.{_≡_, refl, sym, ap, subst, _∙_}
-use native.Mathlib.Omega.{arith}
+use mathlib.Core.Logic.{inl, inr}
+use mathlib.Core.Path.{_≡_, refl, sym, _∙_}
 use Rattle.std.specs.Of.String.{string-bytes}
-use Rattle.std.specs.Of.Vec.{vec-items}
 use Rattle.std.proofs.shelf.Lists.{refilled-is}
 use Rattle.std.proofs.shelf.Results.{made-weaker, cases-at-some, cases-at-none}
-use Rattle.faults.specs.declared.Refusal.the-variants.{WrongSize, BadSide, UnreadLine}
-use Rattle.linker.specs.OneWay.{Room, SidesFit}
-use Rattle.matching.specs.Proposals.{OneWayResult}
+use Rattle.faults.specs.declared.Refusal.the-variants.{WrongSize, UnreadLine}
 use Rattle.text.specs.Lines.{refusedLine}
-use Rattle.oneway_text.specs.Sides.{Digits, sidesOf}
-use Rattle.oneway_text.specs.Printed.{linkedText, OneWayText}
+use Rattle.oneway_text.specs.Printed.{linkedText}
 use Rattle.oneway_text.proofs.Texts.{linked, unfit}
 use Rattle.oneway_text.proofs.one_way_lines.Needs as need
 

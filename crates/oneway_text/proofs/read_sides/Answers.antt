@@ -1,6 +1,6 @@
 use borrow.Author.Count.{below-more}
 use mathlib.Core.List.{_++_, _∷_, []}
-use mathlib.Core.Path.{_≡_, sym, ap, _∙_}
+use mathlib.Core.Path.{sym, ap, _∙_}
 use lib.ListN.{getD, take, length}
 use Prim.Native.Nat.{_<_, _≤_, _-_}
 use native.Mathlib.Omega.{arith}

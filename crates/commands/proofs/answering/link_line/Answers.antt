@@ -1,4 +1,3 @@
-use lib.ListN.{length}
 use mathlib.Core.List.{[]}
 use mathlib.Core.Logic.{inl}
 use mathlib.Core.Path.{_≡_, ap, _∙_}
