@@ -11,7 +11,7 @@ fn others(door: u8) -> [u8; 95] {
 }
 
 // 96 doors that all list each other, the lower numbers first.
-pub fn everybody() -> ListTable {
+pub(crate) fn everybody() -> ListTable {
     let mut table = ListTable::empty(96);
     for door in 0..96u8 {
         let list = others(door);
