@@ -1,4 +1,7 @@
 // Bakes `level.door` from a survey on standard input, reads it back, and says what was found.
+
+#![tactic(auto)]
+
 use std::io::Read;
 use std::{fs, io};
 

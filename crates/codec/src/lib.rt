@@ -1,4 +1,7 @@
 // The level file: its check, reading it, and writing its blocks.
+
+#![tactic(auto)]
+
 mod block;
 mod laws;
 mod table;

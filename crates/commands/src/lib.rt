@@ -1,4 +1,7 @@
 // The console's commands: the lines that say them, and what each is answered with.
+
+#![tactic(auto)]
+
 mod answering;
 mod buffer;
 mod reading;

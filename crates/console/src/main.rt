@@ -1,4 +1,7 @@
 // The console: commands on the level of the current folder, each answered as it comes.
+
+#![tactic(auto)]
+
 use commands::{LineBuffer, answer};
 use level::Level;
 use std::io;

@@ -1,4 +1,7 @@
 // Tests of the checks of files and surveys at their edges.
+
+#![tactic(auto)]
+
 #[cfg(test)]
 mod files;
 #[cfg(test)]

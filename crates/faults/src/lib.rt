@@ -1,4 +1,7 @@
 // Refusals: what was wrong, which layer says so, and where.
+
+#![tactic(auto)]
+
 ghost use Rattle.std.specs.Prelude.{◌≡◌};
 ghost use Rattle.faults.specs.Number.{number};
 

@@ -1,4 +1,7 @@
 // Makes the calls of standard input on the level of the level file, and prints their answers and a summary.
+
+#![tactic(auto)]
+
 use journaling::file_journal;
 use std::io;
 use std::io::Read;

@@ -1,15 +1,15 @@
 -- A ledger after each deed.
-use Rattle.std.proofs.Common.{◌≡◌, ℕ, zero, suc, ◌-◌, ◌<◌, ◌≤◌, Bool, true, false, cond, not, ◌||◌, eqb, ◌≢◌, List, [], ◌∷◌, ◌++◌, map, length, get_or, set, replicate, vec_items, sym, refl, ap, ◌∙◌, subst, ⊎_elim, arith}
+use Rattle.std.proofs.Common.{◌≡◌, ℕ, zero, suc, ◌-◌, ◌<◌, ◌≤◌, Bool, true, false, cond, not, ◌||◌, eqb, ◌≢◌, List, [], ◌∷◌, ◌++◌, map, length, get_or, set, replicate, vec_items, sym, refl, ap, ◌∙◌, ⊎_elim, arith}
 use Rattle.std.specs.List.{range_with_len}
 use Rattle.std.proofs.lemmas.List.FromFn.{fill_by_all, length-map-range_with_len, get_or-map-range_with_len}
 use Rattle.std.proofs.lemmas.List.{get_or_past, length-replicate, get_or-replicate, length-set, get_or-set_same, get_or-set_other}
 use Rattle.std.proofs.lemmas.Bool.{cases_eq, eq-eqb, ne_eqb, cond-true, cond-false}
 use Rattle.journaling.specs.declared.ledger.Ledger.{Ledger}
-use Rattle.journaling.specs.Doors.{standing, holding, Kept, Follows}
+use Rattle.journaling.specs.Doors.{holding, Kept, Follows}
 use Rattle.replay.specs.declared.calls.Call.{Call}
 use Rattle.replay.specs.declared.calls.Call.TheVariants.{Claim, Release, Strike, Free, Forbid, Favour, OneWay, Link}
 use Rattle.replay.specs.History.{History, claimed, released, struck, wasted, freed, forbade, favoured, refusing, claims, granted, door, latest, ended, held, gone}
-use Rattle.replay.specs.State.{Sound, holder}
+use Rattle.replay.specs.State.{holder}
 use Rattle.replay.proofs.Claims.{held_by, holder_claimed, holder_released, holder_struck, holder_freed}
 
 -- one flag written among those of a function

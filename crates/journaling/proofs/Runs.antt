@@ -6,7 +6,7 @@ use Rattle.std.proofs.lemmas.Bool.{cases_lt}
 use Rattle.replay.specs.declared.calls.Answer.{Answer}
 use Rattle.replay.specs.declared.calls.Call.{Call}
 use Rattle.replay.specs.declared.calls.Call.TheVariants.{Release}
-use Rattle.replay.specs.History.{History, before, deeds, call, said}
+use Rattle.replay.specs.History.{before, deeds, call, said}
 use Rattle.replay.specs.Law.{Answered, Right, Law}
 use Rattle.replay.specs.State.{Sound}
 use Rattle.replay.proofs.Sound.{sound_more}

@@ -1,12 +1,12 @@
 -- The texts of calls, part by part.
-use Rattle.std.proofs.Common.{◌≡◌, ℕ, zero, suc, ◌+◌, ◌-◌, ◌^◌, ◌<◌, ◌≤◌, true, false, List, [], ◌∷◌, ◌++◌, map, length, get_or, take, drop, Some, None, decimal, Option, sym, refl, ap, ◌∙◌, subst, arith, rules}
+use Rattle.std.proofs.Common.{◌≡◌, ℕ, zero, suc, ◌+◌, ◌-◌, ◌^◌, ◌<◌, ◌≤◌, true, false, List, [], ◌∷◌, ◌++◌, length, get_or, take, drop, None, decimal, Option, sym, ap, ◌∙◌, subst, arith, rules}
 use Rattle.std.specs.Char.{is_ascii_digit}
 use Rattle.std.specs.List.{AllByRecursion}
 use Rattle.std.proofs.lemmas.Fmt.{decimal_injective}
 use Rattle.std.proofs.ByRecursion.{All-push}
 use Rattle.std.proofs.lemmas.List.{take_more, take_all, take_rest, map_push}
 use Rattle.std.proofs.lemmas.Bool.{both_ways}
-use Rattle.journaling.specs.Calls.{two_text, digits_text, sides_text, Digit, Number, SaysCall, ReadsCall, ReadsNumber, ReadsTwo}
+use Rattle.journaling.specs.Calls.{two_text, digits_text, sides_text, Digit, SaysCall, ReadsCall, ReadsNumber, ReadsTwo}
 use Rattle.replay.specs.declared.calls.Call.{Call}
 use Rattle.text.specs.Reads.{Lacks, ReadsBelow}
 use Rattle.text.proofs.Cuts.{has_mark, one_cut, decimal_lacks}

@@ -1,4 +1,7 @@
 // A journal: calls on a level, one a line, and what is answered to them.
+
+#![tactic(auto)]
+
 mod answers;
 mod counts;
 mod journal;

@@ -1,4 +1,7 @@
 // The level: doors that are claimed, struck, forbidden to each other and favoured, over the lists of any source.
+
+#![tactic(auto)]
+
 mod briefly;
 mod checks;
 mod claims;

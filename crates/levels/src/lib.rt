@@ -1,4 +1,7 @@
 // The level file of the current folder, as every program reads it.
+
+#![tactic(auto)]
+
 ghost use Rattle.std.specs.Prelude.{◌≤◌, length, IfOk, vec_len};
 ghost use Rattle.levels.specs.Starts.{enough, StartDecides};
 

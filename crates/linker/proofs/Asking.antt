@@ -1,5 +1,5 @@
 -- A proposal as the program makes it: the pointer moves on, and the door that is asked takes the asker as its last.
-use Rattle.std.proofs.Common.{◌≡◌, ℕ, ◌<◌, ◌≤◌, ◌⊎◌, List, length, get_or, set, Some, None, Option, sym, refl, ap, ◌∙◌, subst, inl, inr, ⊎_elim, arith}
+use Rattle.std.proofs.Common.{◌≡◌, ℕ, ◌<◌, ◌⊎◌, List, length, get_or, set, Some, None, sym, ap, ◌∙◌, subst, inl, inr, ⊎_elim, arith}
 use Rattle.std.proofs.lemmas.List.{get_or_past, get_or-set_same, get_or-set_other, length-set}
 use Rattle.std.proofs.lemmas.Bool.{cases_eq, cases_lt}
 use Rattle.matching.specs.Lists.{row, Lawful}
@@ -7,7 +7,7 @@ use Rattle.matching.specs.Settled.{Empty, Firsts}
 use Rattle.matching.proofs.Proposing.{First, Asked, asked_less, on_kept}
 use Rattle.matching.proofs.Tables.{first, rows_firsts}
 use Rattle.matching.proofs.Holders.{Underway, OnTheWay, underway_holding, underway_next, underway_falls, underway_ends}
-use Rattle.linker.specs.Holders.{ranks, lasts, Remains, Still, NextKept, Marked, Settles, height, Goes, Proposed}
+use Rattle.linker.specs.Holders.{ranks, lasts, Remains, NextKept, Marked, Settles, Proposed}
 use Rattle.linker.proofs.Standing.{orders, lawful_ranks, rank_own, ranked_doors, still_remains, remains_still}
 
 -- how a write changes the last doors

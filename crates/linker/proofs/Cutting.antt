@@ -1,19 +1,17 @@
 -- The elimination of a rotation, door by door, and what comes of it.
-use Rattle.std.proofs.Common.{◌≡◌, ℕ, suc, ◌+◌, ◌<◌, ◌≤◌, Bool, true, false, ◌⊎◌, List, length, get_or, set, None, sym, refl, ap, ◌∙◌, subst, inl, inr, ⊎_elim, arith}
+use Rattle.std.proofs.Common.{◌≡◌, ℕ, suc, ◌+◌, ◌<◌, ◌≤◌, Bool, true, false, List, length, get_or, set, None, sym, refl, ap, ◌∙◌, subst, ⊎_elim, arith}
 use Rattle.std.proofs.lemmas.List.{get_or-set_same, get_or-set_other, length-set}
 use Rattle.std.proofs.lemmas.Bool.{cases_eq, cases_lt}
 use Rattle.matching.specs.Lists.{row, Lawful}
-use Rattle.matching.specs.Ranks.{Ranks}
 use Rattle.matching.specs.Rotations.{Rotation, Moved, Eliminated}
-use Rattle.matching.specs.Settled.{Settled}
 use Rattle.matching.specs.TwoWay.{second, walk, Outcome}
 use Rattle.matching.proofs.Proposing.{on_kept}
 use Rattle.matching.proofs.Rotating.{PartMoved, part_none, part_more, part_all, in_period, seconds_apart, shorter, on_before, before_second, first_leaves}
 use Rattle.matching.proofs.Tables.{first}
 use Rattle.matching.proofs.Reducing.{rotation, eliminated_made, reduction_falls, empties_some, empties_none, reduced_next}
 use Rattle.matching.proofs.Holders.{OnTheWay}
-use Rattle.linker.specs.Holders.{ranks, lasts, Remains, Marked, height}
-use Rattle.linker.specs.Rounds.{Single, Ahead, InRound, Cutting, Cut, Keeps, Lowered, Rotated}
+use Rattle.linker.specs.Holders.{ranks, lasts, Remains, Marked}
+use Rattle.linker.specs.Rounds.{InRound, Cutting, Cut, Keeps, Lowered, Rotated}
 use Rattle.linker.proofs.Standing.{orders, lawful_ranks, ranked_pair, ranked_doors, ranked_door}
 use Rattle.linker.proofs.Asking.{lasts_same, lasts_other}
 

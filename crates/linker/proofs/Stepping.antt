@@ -1,17 +1,14 @@
 -- Steps of the walk to a rotation: the second on a list, and the last on its list.
-use Rattle.std.proofs.Common.{◌≡◌, ℕ, suc, ◌+◌, ◌<◌, ◌≤◌, Bool, true, false, ◌⊎◌, List, length, get_or, set, is_some, Some, None, Option, sym, refl, ap, ◌∙◌, subst, inl, inr, ⊎_elim, arith}
+use Rattle.std.proofs.Common.{◌≡◌, ℕ, ◌<◌, ◌≤◌, Bool, true, false, List, length, get_or, set, is_some, Some, None, Option, sym, refl, ap, ◌∙◌, subst, ⊎_elim, arith}
 use Rattle.std.proofs.lemmas.List.{get_or-set_same, get_or-set_other}
 use Rattle.std.proofs.lemmas.Bool.{cases_eq}
 use Rattle.matching.specs.Lists.{row, Lawful}
-use Rattle.matching.specs.Settled.{Settled, Second}
-use Rattle.matching.specs.TwoWay.{second}
-use Rattle.matching.proofs.Proposing.{First}
-use Rattle.matching.proofs.Settled.{last_on, second_one}
-use Rattle.matching.proofs.Tables.{first, rows_firsts}
+use Rattle.matching.proofs.Settled.{last_on}
+use Rattle.matching.proofs.Tables.{first}
 use Rattle.matching.proofs.Holders.{OnTheWay}
 use Rattle.linker.specs.Holders.{ranks, lasts, Remains, NextKept, Marked}
 use Rattle.linker.specs.Rounds.{Single, Double, HasTwo, Ahead, SecondOn, Stepped}
-use Rattle.linker.proofs.Standing.{lawful_ranks, ranked_doors, still_remains, remains_still}
+use Rattle.linker.proofs.Standing.{lawful_ranks, still_remains, remains_still}
 use Rattle.linker.proofs.Asking.{none_kept, first_kept}
 
 -- a search that cannot fail finds something

@@ -1,11 +1,10 @@
 -- The walk that finds a rotation: what is written down on the way, and why it comes to a door again.
-use Rattle.std.proofs.Common.{◌≡◌, ℕ, suc, ◌+◌, ◌-◌, ◌<◌, ◌≤◌, ◌⊎◌, List, length, get_or, take, drop, set, sym, refl, ap, ◌∙◌, subst, inl, inr, ⊎_elim, arith}
+use Rattle.std.proofs.Common.{◌≡◌, ℕ, ◌+◌, ◌-◌, ◌<◌, ◌≤◌, List, length, get_or, take, drop, set, sym, refl, ap, ◌∙◌, subst, inl, inr, ⊎_elim, arith}
 use Rattle.std.proofs.lemmas.List.{get_or-set_same, get_or-set_other, get_or-take, get_or-drop, length-take-le, length-drop}
 use Rattle.std.proofs.lemmas.Bool.{cases_eq, cases_lt}
 use Rattle.matching.specs.Lists.{row, Lawful}
-use Rattle.matching.specs.Ranks.{On}
 use Rattle.matching.specs.Rotations.{Walk}
-use Rattle.matching.specs.Settled.{Firsts, Settled, Second}
+use Rattle.matching.specs.Settled.{Firsts, Second}
 use Rattle.matching.specs.TwoWay.{Lowest, second, walk}
 use Rattle.matching.proofs.Search.{walk_repeats}
 use Rattle.matching.proofs.Settled.{second_one}

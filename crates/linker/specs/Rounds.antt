@@ -1,5 +1,5 @@
 -- Rotations as the two-way linker finds and eliminates them.
-use Rattle.std.specs.Prelude.{◌≡◌, ℕ, ◌+◌, ◌<◌, ◌≤◌, Bool, true, false, ◌⊎◌, List, length, get_or, None, ◌≢◌, slice_index, slice_index_or}
+use Rattle.std.specs.Prelude.{◌≡◌, ℕ, ◌+◌, ◌<◌, ◌≤◌, Bool, true, false, ◌⊎◌, List, length, None, ◌≢◌, slice_index, slice_index_or}
 use Rattle.matching.specs.Rotations.{Eliminated}
 use Rattle.matching.specs.TwoWay.{Lowest, second, walk, Outcome}
 use Rattle.matching.proofs.Proposing.{First}
@@ -36,7 +36,7 @@ pub record Stepped (ls : List (List ℕ)) (holder : List ℕ) (x : ℕ) (seconds
   pub found : SecondOn ls holder x f y
   pub onward : next ≡ lasts holder y
   pub placed : at ≡ ranks ls x y
-  pub learnt : get_or seconds' x 0 ≡ at
+  pub learnt : slice_index seconds' x ≡ at
   pub others : (z : ℕ) → (z ≢ x) → slice_index seconds' z ≡ slice_index seconds z
   pub ahead : Ahead ls holder seconds'
 

@@ -1,4 +1,7 @@
 // Linking the doors of a level over any source of preference lists, in lent memory.
+
+#![tactic(auto)]
+
 mod cells;
 mod kept;
 mod oneway;

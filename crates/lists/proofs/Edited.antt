@@ -1,11 +1,10 @@
 -- The lists after an edit: a list copied without one door, a list replaced, a door taken off every list.
 use Rattle.std.proofs.Common.{◌≡◌, ℕ, ◌+◌, ◌<◌, ◌≤◌, Bool, true, false, cond, not, ◌&&◌, eqb, ltb, List, [], ◌∷◌, ◌++◌, map, length, get_or, take, set, is_some, Some, None, Option, sym, refl, ap, ◌∙◌, subst, ⊎_elim, arith}
 use Rattle.std.specs.List.{list_all}
-use Rattle.std.specs.Map.Invariant.{is-distinct}
 use Rattle.std.proofs.lemmas.List.Elements.{filter_more}
 use Rattle.std.proofs.lemmas.List.{append-nil, append_assoc, take_more_set, length-set, length-map, ext_get_or, get_or-map, get_or-set_same, get_or-set_other, set_past, set-get_or}
 use Rattle.std.proofs.lemmas.Bool.{true≢false, and_parts, and_from, and_left, lt-ltb, le-ltb, eq-eqb, ne_eqb, eqb-false, not-true, not_from_true, not_from_false, cond-true, cond-false, cases_eq, cases_lt}
-use Rattle.matching.specs.Lists.{row, place, lawful, lawful_list, without, PlaceOf}
+use Rattle.matching.specs.Lists.{row, place, lawful, lawful_list, without, PlaceOf, is_distinct}
 use Rattle.matching.proofs.Rows.{all_pass_at, all_pass_from, lawful_facts, list_from_facts, place_view}
 use Rattle.matching.proofs.Kept.{lawful_kept, all_kept, all_passed, distinct_kept}
 use Rattle.lists.specs.Edits.{promoted}
@@ -63,15 +62,15 @@ unfolding lawful_list
 lawful_headed n d y p l h e =
     let q : ℕ → Bool = λ z. ltb z n && not (eqb z d) in
     let keeps : ℕ → Bool = λ z. not (eqb z y) in
-    let both = and_parts (list_all q l) (is-distinct eqb l) h in
+    let both = and_parts (list_all q l) (is_distinct eqb l) h in
     let v : PlaceOf l y (Some p) = subst (PlaceOf l y) e (place_view l y) in
     let here : q y ≡ true = subst (λ z. q z ≡ true) v.1 (all_pass_at q l both.0 p v.0) in
     let gone : (z : ℕ) → not (eqb z y) ≡ true → not (eqb y z) ≡ true = λ z k. not_from_false (eqb y z) (ne_eqb y z (λ s. eqb-false z y (not-true (eqb z y) k) (sym s))) in
     let others : list_all (λ z. not (eqb y z)) (without y l) ≡ true =
     all_pass_from (λ z. not (eqb y z)) (without y l) (λ k i. gone (get_or (without y l) k 0) (all_pass_at keeps (without y l) (all_passed keeps l) k i)) in
-    and_from (list_all q (y ∷ without y l)) (is-distinct eqb (y ∷ without y l))
+    and_from (list_all q (y ∷ without y l)) (is_distinct eqb (y ∷ without y l))
     (and_from (q y) (list_all q (without y l)) here (all_kept keeps q l both.0))
-    (and_from (list_all (λ z. not (eqb y z)) (without y l)) (is-distinct eqb (without y l)) others (distinct_kept keeps l both.1))
+    (and_from (list_all (λ z. not (eqb y z)) (without y l)) (is_distinct eqb (without y l)) others (distinct_kept keeps l both.1))
 
 listed_headed : (ls : List (List ℕ)) (d y : ℕ) (l : List ℕ) (o : Option ℕ) → lawful ls ≡ true → place (row ls d) y ≡ o → is_some o ≡ true → l ≡ y ∷ without y (row ls d) → lawful_list (length ls) d l ≡ true
 listed_headed ls d y l None h e some is = absurd (true≢false (sym some))

@@ -1,9 +1,9 @@
 -- A row is filled door by door: what the list so far, its places and its lawfulness are after one door more.
-use Rattle.std.proofs.Common.{◌≡◌, ℕ, zero, suc, ◌+◌, ◌<◌, ◌≤◌, Bool, true, false, cond, not, ◌&&◌, eqb, ltb, ◌⊎◌, List, [], ◌∷◌, ◌++◌, length, get_or, take, set, replicate, Some, None, Option, sym, refl, ap, ◌∙◌, subst, inl, inr, ⊎_elim, arith}
-use Rattle.std.proofs.lemmas.List.{take_more, take_more_set, length_push, get_or_push, get_or_append_left, get_or-take, length-take-le, get_or-set_same, get_or-set_other, length-set, length-take, get_or-replicate, take_all}
-use Rattle.std.proofs.lemmas.Bool.{cases_Bool, cases_eq, cases_lt}
-use Rattle.matching.specs.Lists.{place, lawful_list, LawfulList, PlaceOf}
-use Rattle.matching.proofs.Rows.{list_facts, list_from_facts, place_view, place_from, place_one, nil_lawful}
+use Rattle.std.proofs.Common.{◌≡◌, ℕ, ◌+◌, ◌<◌, ◌≤◌, Bool, true, false, List, [], ◌∷◌, ◌++◌, length, get_or, take, set, replicate, Some, None, Option, sym, refl, ap, ◌∙◌, subst, ⊎_elim, arith}
+use Rattle.std.proofs.lemmas.List.{take_more, take_more_set, length_push, get_or_push, get_or_append_left, get_or-take, length-take-le, get_or-set_same, get_or-set_other, length-set, get_or-replicate, take_all}
+use Rattle.std.proofs.lemmas.Bool.{cases_eq, cases_lt}
+use Rattle.matching.specs.Lists.{place, lawful_list, PlaceOf}
+use Rattle.matching.proofs.Rows.{list_facts, list_from_facts, place_view, place_from, nil_lawful}
 use Rattle.lists.specs.Marks.{mark}
 
 -- a test that cannot be true is false

@@ -1,9 +1,9 @@
 -- The lists of a table: one door's list, and the table after one list is replaced.
-use Rattle.std.proofs.Common.{◌≡◌, ℕ, zero, suc, ◌+◌, ◌<◌, ◌≤◌, min, Bool, true, false, ◌&&◌, eqb, ltb, List, [], ◌∷◌, map, length, get_or, take, set, replicate, Some, None, Option, sym, refl, ap, ◌∙◌, subst, ⊎_elim, arith}
-use Rattle.std.proofs.lemmas.List.{length-map, length-take, length-take-le, get_or-take, get_or-map, get_or_past, get_or-set_same, get_or-set_other, length-set, map-set, take-set-le, get_or-replicate, length-replicate, same_lists, take-replicate}
+use Rattle.std.proofs.Common.{◌≡◌, ℕ, zero, suc, ◌<◌, ◌≤◌, true, List, [], ◌∷◌, map, length, get_or, take, set, replicate, None, sym, refl, ap, ◌∙◌, subst, ⊎_elim, arith}
+use Rattle.std.proofs.lemmas.List.{length-map, length-take, length-take-le, get_or-take, get_or-map, get_or_past, get_or-set_same, get_or-set_other, length-set, map-set, get_or-replicate, length-replicate, same_lists, take-replicate}
 use Rattle.std.proofs.lemmas.Bool.{cases_eq, cases_lt}
-use Rattle.matching.specs.Lists.{place, row, lawful, lawful_list, LawfulList, Lawful, PlaceOf}
-use Rattle.matching.proofs.Rows.{list_facts, lawful_facts, lawful_from_facts, place_view, place_from, nil_lawful}
+use Rattle.matching.specs.Lists.{place, row, lawful, lawful_list, LawfulList}
+use Rattle.matching.proofs.Rows.{list_facts, lawful_facts, lawful_from_facts, place_from, nil_lawful}
 
 -- the lawful lists after one list is replaced by a lawful one
 pub lawful_set : (ls : List (List ℕ)) (d : ℕ) (l : List ℕ) → lawful ls ≡ true → d < length ls → lawful_list (length ls) d l ≡ true → lawful (set ls d l) ≡ true

@@ -1,12 +1,11 @@
 -- From lists to the theory's form: ranks that follow the lists, linkings as functions, and back.
 use Rattle.std.proofs.Common.{◌≡◌, ℕ, ◌<◌, ◌≤◌, Bool, true, false, cond, ◌&&◌, eqb, ◌⊎◌, List, map, length, get_or, is_some, filter, sym, ap, ◌∙◌, subst, inl, inr, ⊎_elim, arith}
-use Rattle.std.specs.Map.Invariant.{is-distinct}
 use Rattle.std.specs.List.{range_with_len}
 use Rattle.std.proofs.lemmas.List.FromFn.{get_or-map-range_with_len, length-map-range_with_len}
 use Rattle.std.proofs.lemmas.List.{get_or_past}
 use Rattle.std.proofs.ByRecursion.{All-from_get_or, all_kept_by}
 use Rattle.std.proofs.lemmas.Bool.{and_parts, and_from, cases_eq, cases_lt, cases_Bool, cases_order, both_ways, or_cases, or_left, or_right, cond-true, cond-false, eq-eqb, ne_eqb}
-use Rattle.matching.specs.Lists.{row, place, Lawful}
+use Rattle.matching.specs.Lists.{row, place, Lawful, is_distinct}
 use Rattle.matching.specs.Ranks.{Ranks, Links, Unblocked}
 use Rattle.matching.specs.Linkings.{unlinked, listed, accept, exit, entrance, counts_one_way, partner, Linking, Prefers, Tempted, BlockingPair, Stable}
 use Rattle.matching.specs.Proposals.{trimmed}
@@ -137,7 +136,7 @@ module _ (ls : List (List ℕ)) (pairs : ℕ → ℕ → Bool) (f : Lawful ls) (
   trim_end x = kept_out (pairs x) (row ls x) x (pair_self x)
 
   -- a trimmed list has different doors, as many as the level has at most
-  pub trim_distinct : (x : ℕ) → is-distinct eqb (trimmed ls pairs x) ≡ true
+  pub trim_distinct : (x : ℕ) → is_distinct eqb (trimmed ls pairs x) ≡ true
   unfolding trimmed
   trim_distinct x = kept_distinct (pairs x) (row ls x) (distinct_from (row ls x) (λ i k b c e. omega (arith, (f.each x).apart i k (omega arith) c e)))
 

@@ -1,6 +1,6 @@
 -- Finite searches: a linking is stable or has a blocking pair.
-use Rattle.std.proofs.Common.{◌≡◌, ℕ, zero, suc, ◌<◌, Bool, true, ◌⊎◌, List, length, sym, subst, inl, inr, ⊎_elim, arith}
-use Rattle.std.proofs.lemmas.Bool.{cases_eq, cases_lt}
+use Rattle.std.proofs.Common.{◌≡◌, ℕ, ◌<◌, Bool, true, ◌⊎◌, List, length, inl, inr, ⊎_elim, arith}
+use Rattle.std.proofs.lemmas.Bool.{cases_lt}
 use Rattle.matching.specs.Lists.{Lawful}
 use Rattle.matching.specs.Ranks.{Links, Blocked}
 use Rattle.matching.specs.Linkings.{Linking, BlockingPair, Stable}

@@ -5,7 +5,7 @@ use Rattle.std.proofs.lemmas.List.FromFn.{fill_by_all}
 use Rattle.std.proofs.lemmas.List.{get_or_past, ext_get_or}
 use Rattle.std.proofs.lemmas.List.Sums.{sum-map}
 use Rattle.std.proofs.lemmas.Bool.{cases_eq, cases_lt, cases_Bool, cond-true, cond-false}
-use Rattle.matching.specs.Lists.{place, Lawful}
+use Rattle.matching.specs.Lists.{Lawful}
 use Rattle.matching.specs.Ranks.{Links, Unblocked}
 use Rattle.matching.specs.Linkings.{unlinked, exit, counts_one_way, partner, Linking, Prefers, Stable}
 use Rattle.matching.specs.Proposals.{trimmed, up_to, asks_of, proposals, BestForExits, Asking, Finished, ResultOf, EndsIn, OneWayResult}

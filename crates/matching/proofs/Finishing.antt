@@ -2,11 +2,10 @@
 use Rattle.std.proofs.Common.{◌≡◌, ℕ, zero, suc, ◌<◌, ◌≤◌, true, eqb, ◌⊎◌, List, [], ◌∷◌, map, length, get_or, set, replicate, filter, sym, refl, ap, ◌∙◌, subst, inl, inr, ⊎_elim, arith}
 use mathlib.Core.Path.{fun_ext}
 use Rattle.std.specs.List.{range_with_len}
-use Rattle.std.specs.Map.Invariant.{is-distinct}
 use Rattle.std.proofs.lemmas.List.FromFn.{length-map-range_with_len, get_or-map-range_with_len}
 use Rattle.std.proofs.lemmas.List.{get_or_past, get_or-set_same, get_or-set_other, length-set, length-replicate, get_or-replicate}
 use Rattle.std.proofs.lemmas.Bool.{cases_eq, cases_lt}
-use Rattle.matching.specs.Lists.{row, Lawful}
+use Rattle.matching.specs.Lists.{row, Lawful, is_distinct}
 use Rattle.matching.specs.Linkings.{unlinked, accept, partner, Prefers}
 use Rattle.matching.specs.Proposals.{trimmed}
 use Rattle.matching.specs.Ranks.{Ranks, Links, Unblocked, On, Within}
@@ -92,7 +91,7 @@ module _ (ls : List (List ℕ)) (h : Lawful ls) (r : ℕ → ℕ → ℕ) (o : R
       let n : rank l y < length l = omega (arith, (trim_ranking ls (accept ls) h (accept_pairing ls)).near x y a, trim_end ls (accept ls) h (accept_pairing ls) x) in
       subst (λ v. In v l) (rank_here l y n).0 (in_at l (rank l y) 0 n)
 
-  trimmed_distinct : (x : ℕ) → is-distinct eqb (trimmed ls (accept ls) x) ≡ true
+  trimmed_distinct : (x : ℕ) → is_distinct eqb (trimmed ls (accept ls) x) ≡ true
   unfolding trimmed
   trimmed_distinct x = kept_distinct (accept ls x) (row ls x) (distinct_from (row ls x) (λ j k i b e. omega (arith, i, (h.each x).apart j k (omega arith) b e)))
 

@@ -1,10 +1,9 @@
 -- What a filter of a list keeps, and how long a list of different doors can be.
-use Rattle.std.proofs.Common.{◌≡◌, ℕ, zero, suc, ◌+◌, ◌<◌, ◌≤◌, Bool, true, false, cond, not, ◌&&◌, eqb, ltb, List, [], ◌∷◌, length, get_or, filter, sym, refl, ap, ◌∙◌, subst, arith}
+use Rattle.std.proofs.Common.{◌≡◌, ℕ, zero, suc, ◌<◌, ◌≤◌, Bool, true, false, cond, not, ◌&&◌, eqb, ltb, List, [], ◌∷◌, length, get_or, filter, refl, ap, subst, arith}
 use Rattle.std.specs.List.{list_all}
-use Rattle.std.specs.Map.Invariant.{is-distinct}
-use Rattle.std.proofs.lemmas.Bool.{and_parts, and_from, eqb-true, eqb-false, ltb-true, lt-ltb, ne_eqb, eq-eqb, not-true, not-false, not_from_false, not_from_true, cases_Bool}
+use Rattle.std.proofs.lemmas.Bool.{and_parts, and_from, eqb-true, ltb-true, lt-ltb}
 use Rattle.std.proofs.lemmas.Bool.Decides.{nat_tests}
-use Rattle.matching.specs.Lists.{lawful_list, without}
+use Rattle.matching.specs.Lists.{lawful_list, without, is_distinct}
 use Rattle.matching.proofs.Rows.{all_pass_at, all_pass_from}
 
 -- a filter keeps what each element passed
@@ -24,12 +23,12 @@ pub all_passed : (p : ℕ → Bool) (l : List ℕ) → list_all p (filter p l) �
 all_passed p [] = refl
 all_passed p (x ∷ xs) = all_passed_cons p x (filter p xs) (p x) refl (all_passed p xs)
 
-pub distinct_kept : (p : ℕ → Bool) (l : List ℕ) → is-distinct eqb l ≡ true → is-distinct eqb (filter p l) ≡ true
+pub distinct_kept : (p : ℕ → Bool) (l : List ℕ) → is_distinct eqb l ≡ true → is_distinct eqb (filter p l) ≡ true
 distinct_kept p [] h = refl
 distinct_kept p (x ∷ xs) h =
-    let both = and_parts (list_all (λ y. not (eqb x y)) xs) (is-distinct eqb xs) h in
-    elim (p x) as (λ b. is-distinct eqb (cond b (x ∷ filter p xs) (filter p xs)) ≡ true) [
-      | true ↦ and_from (list_all (λ y. not (eqb x y)) (filter p xs)) (is-distinct eqb (filter p xs)) (all_kept p (λ y. not (eqb x y)) xs both.0) (distinct_kept p xs both.1)
+    let both = and_parts (list_all (λ y. not (eqb x y)) xs) (is_distinct eqb xs) h in
+    elim (p x) as (λ b. is_distinct eqb (cond b (x ∷ filter p xs) (filter p xs)) ≡ true) [
+      | true ↦ and_from (list_all (λ y. not (eqb x y)) (filter p xs)) (is_distinct eqb (filter p xs)) (all_kept p (λ y. not (eqb x y)) xs both.0) (distinct_kept p xs both.1)
       | false ↦ distinct_kept p xs both.1
     ]
 
@@ -38,8 +37,8 @@ pub lawful_kept : (n d : ℕ) (p : ℕ → Bool) (l : List ℕ) → lawful_list 
 unfolding lawful_list
 lawful_kept n d p l h =
     let q : ℕ → Bool = λ y. ltb y n && not (eqb y d) in
-    let both = and_parts (list_all q l) (is-distinct eqb l) h in
-    and_from (list_all q (filter p l)) (is-distinct eqb (filter p l)) (all_kept p q l both.0) (distinct_kept p l both.1)
+    let both = and_parts (list_all q l) (is_distinct eqb l) h in
+    and_from (list_all q (filter p l)) (is_distinct eqb (filter p l)) (all_kept p q l both.0) (distinct_kept p l both.1)
 
 -- taking a door off a list on which it is not changes nothing
 pub without_none : (v : ℕ) (l : List ℕ) → list_all (λ y. not (eqb v y)) l ≡ true → without v l ≡ l
@@ -55,14 +54,14 @@ without_cons v x xs false e h i = omega arith
 without_cons v x xs true e h i =
     let w = without_none v xs (subst (λ z. list_all (λ y. not (eqb z y)) xs ≡ true) (eqb-true x v e) h) in omega (arith, ap length w)
 
-pub without_length : (v : ℕ) (l : List ℕ) → is-distinct eqb l ≡ true → length l ≤ suc (length (without v l))
+pub without_length : (v : ℕ) (l : List ℕ) → is_distinct eqb l ≡ true → length l ≤ suc (length (without v l))
 without_length v [] h = omega arith
 without_length v (x ∷ xs) h =
-    let both = and_parts (list_all (λ y. not (eqb x y)) xs) (is-distinct eqb xs) h in
+    let both = and_parts (list_all (λ y. not (eqb x y)) xs) (is_distinct eqb xs) h in
     without_cons v x xs (eqb x v) refl both.0 (without_length v xs both.1)
 
 -- at most n different numbers are below n
-pub at_most : (n : ℕ) (l : List ℕ) → list_all (λ y. ltb y n) l ≡ true → is-distinct eqb l ≡ true → length l ≤ n
+pub at_most : (n : ℕ) (l : List ℕ) → list_all (λ y. ltb y n) l ≡ true → is_distinct eqb l ≡ true → length l ≤ n
 at_most zero [] a h = omega arith
 at_most zero (x ∷ xs) a h = absurd (omega (arith, ltb-true x 0 (and_parts (ltb x 0) (list_all (λ y. ltb y 0) xs) a).0))
 at_most (suc n) l a h =
@@ -83,14 +82,14 @@ pub lawful_short : (n d : ℕ) (l : List ℕ) → lawful_list n d l ≡ true →
 unfolding lawful_list
 lawful_short n d l h i =
     let q : ℕ → Bool = λ y. ltb y n && not (eqb y d) in
-    let both = and_parts (list_all q l) (is-distinct eqb l) h in
+    let both = and_parts (list_all q l) (is_distinct eqb l) h in
     let below = all_weaker q (λ y. ltb y n) l (λ y e. (and_parts (ltb y n) (not (eqb y d)) e).0) both.0 in
     let differ = all_weaker q (λ y. not (eqb d y)) l (λ y e. grind (arith, nat_tests, (and_parts (ltb y n) (not (eqb y d)) e).1)) both.0 in
-    at_most n (d ∷ l) (and_from (ltb d n) (list_all (λ y. ltb y n) l) (lt-ltb d n i) below) (and_from (list_all (λ y. not (eqb d y)) l) (is-distinct eqb l) differ both.1)
+    at_most n (d ∷ l) (and_from (ltb d n) (list_all (λ y. ltb y n) l) (lt-ltb d n i) below) (and_from (list_all (λ y. not (eqb d y)) l) (is_distinct eqb l) differ both.1)
 
 pub lawful_at_most : (n d : ℕ) (l : List ℕ) → lawful_list n d l ≡ true → length l ≤ n
 unfolding lawful_list
 lawful_at_most n d l h =
     let q : ℕ → Bool = λ y. ltb y n && not (eqb y d) in
-    let both = and_parts (list_all q l) (is-distinct eqb l) h in
+    let both = and_parts (list_all q l) (is_distinct eqb l) h in
     at_most n l (all_weaker q (λ y. ltb y n) l (λ y e. (and_parts (ltb y n) (not (eqb y d)) e).0) both.0) both.1

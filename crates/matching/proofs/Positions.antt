@@ -2,10 +2,9 @@
 use Rattle.std.proofs.Common.{◌≡◌, ℕ, zero, suc, ◌<◌, ◌≤◌, Bool, true, false, cond, not, eqb, ◌⊎◌, List, [], ◌∷◌, length, get_or, Some, None, filter, Option, unwrap_or, sym, refl, ap, ◌∙◌, subst, inl, inr, ⊎_elim, arith}
 use Rattle.std.specs.Option.{option_map}
 use Rattle.std.specs.List.{list_all, AllByRecursion}
-use Rattle.std.specs.Map.Invariant.{is-distinct}
 use Rattle.std.proofs.ByRecursion.{All-get_or, All-from_get_or, all_kept_by, kept_by_passes}
 use Rattle.std.proofs.lemmas.Bool.{and_parts, and_from, eqb-false, ne_eqb, eq-eqb, cases_eq, cases_lt, cases_Bool, not_from_true, not_from_false, not-true}
-use Rattle.matching.specs.Lists.{place, PlaceOf}
+use Rattle.matching.specs.Lists.{place, PlaceOf, is_distinct}
 use Rattle.matching.proofs.Rows.{place_view, distinct_at}
 
 unfoldable pub rank : List ℕ → ℕ → ℕ
@@ -134,20 +133,20 @@ kept_all_pass p q (x ∷ xs) h =
     (λ t. subst (λ v. list_all q v ≡ true) (sym (kept_no p x xs t)) deeper)
     (cases_Bool (p x))
 
-pub kept_distinct : (p : ℕ → Bool) (l : List ℕ) → is-distinct eqb l ≡ true → is-distinct eqb (filter p l) ≡ true
+pub kept_distinct : (p : ℕ → Bool) (l : List ℕ) → is_distinct eqb l ≡ true → is_distinct eqb (filter p l) ≡ true
 kept_distinct p [] h = refl
 kept_distinct p (x ∷ xs) h =
     let q : ℕ → Bool = λ y. not (eqb x y) in
-    let parts = and_parts (list_all q xs) (is-distinct eqb xs) h in
-    let deeper : is-distinct eqb (filter p xs) ≡ true = kept_distinct p xs parts.1 in
+    let parts = and_parts (list_all q xs) (is_distinct eqb xs) h in
+    let deeper : is_distinct eqb (filter p xs) ≡ true = kept_distinct p xs parts.1 in
     ⊎_elim
-    (λ t. subst (λ v. is-distinct eqb v ≡ true) (sym (kept_yes p x xs t))
-    (and_from (list_all q (filter p xs)) (is-distinct eqb (filter p xs)) (kept_all_pass p q xs parts.0) deeper))
-    (λ t. subst (λ v. is-distinct eqb v ≡ true) (sym (kept_no p x xs t)) deeper)
+    (λ t. subst (λ v. is_distinct eqb v ≡ true) (sym (kept_yes p x xs t))
+    (and_from (list_all q (filter p xs)) (is_distinct eqb (filter p xs)) (kept_all_pass p q xs parts.0) deeper))
+    (λ t. subst (λ v. is_distinct eqb v ≡ true) (sym (kept_no p x xs t)) deeper)
     (cases_Bool (p x))
 
 -- among different doors, the rank of the door at a place is the place
-pub rank_at : (l : List ℕ) (j : ℕ) → is-distinct eqb l ≡ true → j < length l → rank l (get_or l j 0) ≡ j
+pub rank_at : (l : List ℕ) (j : ℕ) → is_distinct eqb l ≡ true → j < length l → rank l (get_or l j 0) ≡ j
 rank_at l j h i =
     ⊎_elim
     (λ c. let here = rank_here l (get_or l j 0) c.0 in
@@ -163,11 +162,11 @@ kept_all : (p : ℕ → Bool) (l : List ℕ) → list_all p l ≡ true → filte
 kept_all p [] h = refl
 kept_all p (x ∷ xs) h = let t = and_parts (p x) (list_all p xs) h in kept_yes p x xs t.0 ∙ ap (λ v. x ∷ v) (kept_all p xs t.1)
 
-kept_others : (v : ℕ) (l : List ℕ) → is-distinct eqb l ≡ true → length l ≤ suc (length (filter (λ y. not (eqb v y)) l))
+kept_others : (v : ℕ) (l : List ℕ) → is_distinct eqb l ≡ true → length l ≤ suc (length (filter (λ y. not (eqb v y)) l))
 kept_others v [] h = omega arith
 kept_others v (x ∷ xs) h =
     let p : ℕ → Bool = λ y. not (eqb v y) in
-    let t = and_parts (list_all (λ y. not (eqb x y)) xs) (is-distinct eqb xs) h in
+    let t = and_parts (list_all (λ y. not (eqb x y)) xs) (is_distinct eqb xs) h in
     let deeper : length xs ≤ suc (length (filter p xs)) = kept_others v xs t.1 in
     ⊎_elim
     (λ e. let rest : list_all p xs ≡ true = subst (λ w. list_all (λ y. not (eqb w y)) xs ≡ true) (sym e) t.0 in
@@ -175,7 +174,7 @@ kept_others v (x ∷ xs) h =
     (λ n. omega (arith, deeper, ap length (kept_yes p x xs (not_from_false (eqb v x) (ne_eqb v x n)))))
     (cases_eq v x)
 
-pub short_distinct : (n : ℕ) (l : List ℕ) → is-distinct eqb l ≡ true → AllByRecursion (λ y. y < n) l → length l ≤ n
+pub short_distinct : (n : ℕ) (l : List ℕ) → is_distinct eqb l ≡ true → AllByRecursion (λ y. y < n) l → length l ≤ n
 short_distinct zero [] h b = omega arith
 short_distinct zero (x ∷ xs) h b = absurd (omega (arith, b.0))
 short_distinct (suc n) l h b =

@@ -1,11 +1,9 @@
 -- The tests of specs/Lists as facts about doors and places, and back.
-use Rattle.std.proofs.Common.{◌≡◌, ℕ, zero, suc, ◌+◌, ◌<◌, ◌≤◌, Bool, true, false, cond, not, ◌&&◌, eqb, ltb, leb, ◌⊎◌, List, [], ◌∷◌, length, get_or, Some, None, Option, sym, refl, ap, ◌∙◌, subst, inl, inr, ⊎_elim, arith}
+use Rattle.std.proofs.Common.{◌≡◌, ℕ, zero, suc, ◌+◌, ◌<◌, Bool, true, false, cond, not, ◌&&◌, eqb, ltb, leb, List, [], ◌∷◌, length, get_or, Some, None, Option, refl, ap, subst, ⊎_elim, arith}
 use Rattle.std.specs.Option.{option_map}
 use Rattle.std.specs.List.{list_all}
-use Rattle.std.specs.Map.Invariant.{is-distinct}
-use Rattle.std.proofs.lemmas.Bool.{and_parts, and_from, eqb-true, eqb-false, ltb-true, lt-ltb, leb-true, le-leb, ne_eqb, eq-eqb, not-true, not_from_false, cases_eq, cases_Bool}
-use Rattle.std.proofs.lemmas.Bool.Decides.{nat_tests}
-use Rattle.matching.specs.Lists.{row, place, lawful_list, lawful_from, lawful, LawfulList, Lawful, PlaceOf}
+use Rattle.std.proofs.lemmas.Bool.{and_parts, and_from, eqb-true, eqb-false, ltb-true, lt-ltb, leb-true, le-leb, ne_eqb, not-true, not_from_false, cases_eq}
+use Rattle.matching.specs.Lists.{row, place, lawful_list, lawful_from, lawful, LawfulList, Lawful, PlaceOf, is_distinct}
 
 -- a test that every element passes
 pub all_pass_at : (p : ℕ → Bool) (l : List ℕ) → list_all p l ≡ true → (k : ℕ) → k < length l → p (get_or l k 0) ≡ true
@@ -18,18 +16,18 @@ all_pass_from p [] h = refl
 all_pass_from p (x ∷ xs) h = and_from (p x) (list_all p xs) (h 0 (omega arith)) (all_pass_from p xs (λ k i. h (suc k) (omega arith)))
 
 -- a list whose places hold different doors
-pub distinct_at : (l : List ℕ) → is-distinct eqb l ≡ true → (j k : ℕ) → j < k → k < length l → get_or l j 0 ≡ get_or l k 0 → ⊥
+pub distinct_at : (l : List ℕ) → is_distinct eqb l ≡ true → (j k : ℕ) → j < k → k < length l → get_or l j 0 ≡ get_or l k 0 → ⊥
 distinct_at [] h j k i b e = omega arith
 distinct_at (x ∷ xs) h j zero i b e = omega arith
 distinct_at (x ∷ xs) h zero (suc k) i b e =
-    eqb-false x (get_or xs k 0) (not-true (eqb x (get_or xs k 0)) (all_pass_at (λ y. not (eqb x y)) xs (and_parts (list_all (λ y. not (eqb x y)) xs) (is-distinct eqb xs) h).0 k (omega arith))) e
+    eqb-false x (get_or xs k 0) (not-true (eqb x (get_or xs k 0)) (all_pass_at (λ y. not (eqb x y)) xs (and_parts (list_all (λ y. not (eqb x y)) xs) (is_distinct eqb xs) h).0 k (omega arith))) e
 distinct_at (x ∷ xs) h (suc j) (suc k) i b e =
-    distinct_at xs (and_parts (list_all (λ y. not (eqb x y)) xs) (is-distinct eqb xs) h).1 j k (omega arith) (omega arith) e
+    distinct_at xs (and_parts (list_all (λ y. not (eqb x y)) xs) (is_distinct eqb xs) h).1 j k (omega arith) (omega arith) e
 
-pub distinct_from : (l : List ℕ) → ((j k : ℕ) → j < k → k < length l → get_or l j 0 ≡ get_or l k 0 → ⊥) → is-distinct eqb l ≡ true
+pub distinct_from : (l : List ℕ) → ((j k : ℕ) → j < k → k < length l → get_or l j 0 ≡ get_or l k 0 → ⊥) → is_distinct eqb l ≡ true
 distinct_from [] h = refl
 distinct_from (x ∷ xs) h =
-    and_from (list_all (λ y. not (eqb x y)) xs) (is-distinct eqb xs)
+    and_from (list_all (λ y. not (eqb x y)) xs) (is_distinct eqb xs)
     (all_pass_from (λ y. not (eqb x y)) xs (λ k i. not_from_false (eqb x (get_or xs k 0)) (ne_eqb x (get_or xs k 0) (λ e. h 0 (suc k) (omega arith) (omega arith) e))))
     (distinct_from xs (λ j k i b e. h (suc j) (suc k) (omega arith) (omega arith) e))
 
@@ -38,7 +36,7 @@ pub list_facts : (n d : ℕ) (l : List ℕ) → lawful_list n d l ≡ true → L
 unfolding lawful_list
 list_facts n d l h =
     let p : ℕ → Bool = λ y. ltb y n && not (eqb y d) in
-    let both = and_parts (list_all p l) (is-distinct eqb l) h in
+    let both = and_parts (list_all p l) (is_distinct eqb l) h in
     record {
       known = λ k i. let here = and_parts (ltb (get_or l k 0) n) (not (eqb (get_or l k 0) d)) (all_pass_at p l both.0 k i) in ltb-true (get_or l k 0) n here.0;
       others = λ k i e. let here = and_parts (ltb (get_or l k 0) n) (not (eqb (get_or l k 0) d)) (all_pass_at p l both.0 k i) in eqb-false (get_or l k 0) d (not-true (eqb (get_or l k 0) d) here.1) e;
@@ -48,7 +46,7 @@ list_facts n d l h =
 pub list_from_facts : (n d : ℕ) (l : List ℕ) → LawfulList n d l → lawful_list n d l ≡ true
 unfolding lawful_list
 list_from_facts n d l f =
-    and_from (list_all (λ y. ltb y n && not (eqb y d)) l) (is-distinct eqb l)
+    and_from (list_all (λ y. ltb y n && not (eqb y d)) l) (is_distinct eqb l)
     (all_pass_from (λ y. ltb y n && not (eqb y d)) l
     (λ k i. and_from (ltb (get_or l k 0) n) (not (eqb (get_or l k 0) d)) (lt-ltb (get_or l k 0) n (f.known k i)) (not_from_false (eqb (get_or l k 0) d) (ne_eqb (get_or l k 0) d (f.others k i)))))
     (distinct_from l (λ j k i b e. omega (arith, f.apart j k (omega arith) b e)))

@@ -1,15 +1,15 @@
 -- The theorem of two-way linking, from the theory's form back to lists.
 use Rattle.std.proofs.Common.{◌≡◌, ℕ, true, List, length, is_some, Some, None, Option, sym, refl, subst, inl, inr, ⊎_elim}
 use Rattle.matching.specs.Lists.{row, place, PlaceOf, Lawful}
-use Rattle.matching.specs.Linkings.{unlinked, listed, accept, partner, Linking, BlockingPair, Stable}
+use Rattle.matching.specs.Linkings.{listed, accept, Linking, BlockingPair, Stable}
 use Rattle.matching.specs.Ranks.{Links, Unblocked, Within}
 use Rattle.matching.specs.TwoWay.{Outcome, Inside, ProposalsAgree, SomeStays, TwoWayDecides}
 use Rattle.matching.proofs.Rows.{place_view}
-use Rattle.matching.proofs.Bridge.{Ranking, Writes, accept_pairing, trim_rank, trim_ranking, link_of, link_none, linking_writes, links_writes, writes_stable, linking_links, stable_unblocked, written, written_writes, written_linking, written_stable}
+use Rattle.matching.proofs.Bridge.{Ranking, Writes, accept_pairing, trim_rank, trim_ranking, link_of, linking_writes, links_writes, writes_stable, linking_links, stable_unblocked, written, written_writes, written_linking, written_stable}
 use Rattle.matching.proofs.Decided.{stable_or_blocked}
-use Rattle.matching.proofs.Settled.{partner_on, linked_if_listed, listed_if_linked}
-use Rattle.matching.proofs.Tables.{In, at_in, TableOf, first}
-use Rattle.matching.proofs.Finishing.{finish_stands, finish_settled, finish_one, finishes}
+use Rattle.matching.proofs.Settled.{partner_on}
+use Rattle.matching.proofs.Tables.{In, at_in, TableOf}
+use Rattle.matching.proofs.Finishing.{finish_stands, finish_one, finishes}
 use Rattle.matching.proofs.Reducing.{reduces_reduced, outcome_none, outcome_links, outcome_one, outcome_exists}
 
 module _ (ls : List (List ℕ)) (h : Lawful ls) where

@@ -1,8 +1,7 @@
 -- Preference lists. A level of n doors is a list of n rows: row x is the list of door x, the most wanted door first.
-use Rattle.std.specs.Prelude.{◌≡◌, ℕ, suc, ◌<◌, ◌≤◌, Bool, true, false, cond, not, ◌&&◌, List, [], ◌∷◌, length, Some, None, filter, Option, ◌==◌, ◌≢◌, nat_eq, nat_le, nat_lt, slice_index, slice_index_or}
+use Rattle.std.specs.Prelude.{◌≡◌, ℕ, suc, ◌<◌, ◌≤◌, Bool, true, cond, not, ◌&&◌, List, [], ◌∷◌, length, Some, None, filter, Option, ◌==◌, ◌≢◌, nat_eq, nat_le, nat_lt, slice_index, slice_index_or}
 use Rattle.std.specs.Option.{option_map}
 use Rattle.std.specs.List.{list_all}
-use Rattle.std.specs.Map.Invariant.{is-distinct}
 
 -- the list of door x; a number past the last door has the empty list
 abbrev pub row : List (List ℕ) → ℕ → List ℕ
@@ -13,9 +12,14 @@ unfoldable pub place : List ℕ → ℕ → Option ℕ
 place [] y = None
 place (x ∷ xs) y = cond (x == y) (Some 0) (option_map suc (place xs y))
 
+-- no element equals one after it, by the test eq
+abbrev pub is_distinct : {X : Type 0} → (X → X → Bool) → List X → Bool
+is_distinct eq [] = true
+is_distinct eq (x ∷ xs) = list_all (λ y. not (eq x y)) xs && is_distinct eq xs
+
 -- a lawful list of door d among n doors: different doors of the level, never d itself
 unfoldable pub lawful_list : ℕ → ℕ → List ℕ → Bool
-lawful_list n d l = list_all (λ y. nat_lt y n && not (y == d)) l && is-distinct nat_eq l
+lawful_list n d l = list_all (λ y. nat_lt y n && not (y == d)) l && is_distinct nat_eq l
 
 -- the rows of the doors d, d + 1 and on are lawful lists among n doors
 unfoldable pub lawful_from : ℕ → ℕ → List (List ℕ) → Bool

@@ -1,5 +1,5 @@
 -- One-way linking by proposals: exits ask the entrances on their lists, each entrance keeps the exit that it prefers.
-use Rattle.std.specs.Prelude.{◌≡◌, ℕ, zero, suc, ◌<◌, ◌≤◌, Bool, true, cond, ◌⊎◌, List, length, get_or, replicate, Some, None, sum_by, filter, Option, ◌≢◌, slice_index, slice_index_or, slice_set}
+use Rattle.std.specs.Prelude.{◌≡◌, ℕ, zero, suc, ◌<◌, ◌≤◌, Bool, true, cond, ◌⊎◌, List, length, replicate, Some, None, sum_by, filter, Option, ◌≢◌, slice_index, slice_index_or, slice_set}
 use Rattle.std.specs.List.{range_with_len}
 use Rattle.matching.specs.Lists.{row, place}
 use Rattle.matching.specs.Linkings.{unlinked, exit, counts_one_way, partner, Linking, Prefers, Stable}
@@ -50,8 +50,8 @@ Answers ls s x y held' =
 pub record Proposal (ls : List (List ℕ)) (sides : List ℕ) (s : Asking) (x y : ℕ) (t : Asking) : Type 0 where
   pub asker : exit sides x ≡ true
   pub free : Free s x
-  pub more : get_or s.asked x 0 < length (trimmed ls (counts_one_way ls sides) x)
-  pub next : get_or (trimmed ls (counts_one_way ls sides) x) (slice_index s.asked x) 0 ≡ y
+  pub more : slice_index s.asked x < length (trimmed ls (counts_one_way ls sides) x)
+  pub next : slice_index (trimmed ls (counts_one_way ls sides) x) (slice_index s.asked x) ≡ y
   pub counted : t.asked ≡ slice_set s.asked x (suc (slice_index s.asked x))
   pub answer : Answers ls s x y t.held
 

@@ -1,4 +1,7 @@
 // Preference lists and linkings: definitions, and the theorems about them.
+
+#![tactic(auto)]
+
 pub mod one_way;
 pub mod rotations;
 

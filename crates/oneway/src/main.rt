@@ -1,4 +1,7 @@
 // Links the doors of the level file one way, for the sides that a line of standard input gives them.
+
+#![tactic(auto)]
+
 use oneway_text::one_way_file;
 use std::io;
 use std::io::Read;

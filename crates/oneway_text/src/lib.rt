@@ -1,4 +1,7 @@
 // What the program for one-way linking prints.
+
+#![tactic(auto)]
+
 ghost use Rattle.std.specs.Prelude.{◌≡◌, IfOk, string_bytes, MatchOption};
 ghost use Rattle.oneway_text.specs.Sides.{Digits, sides_of};
 ghost use Rattle.oneway_text.specs.Printed.{linked_text, OneWayText, FileText};

@@ -1,12 +1,12 @@
 -- A level agrees with a history: its view is what the history says.
-use Rattle.std.proofs.Common.{◌≡◌, ℕ, suc, ◌+◌, ◌<◌, ◌≤◌, Bool, true, false, cond, not, ◌||◌, eqb, ◌⊎◌, List, [], ◌∷◌, ◌++◌, map, length, get_or, set, replicate, None, filter, sym, refl, ap, ◌∙◌, subst, ⊎_elim, arith}
+use Rattle.std.proofs.Common.{◌≡◌, ℕ, suc, ◌+◌, ◌<◌, ◌≤◌, Bool, true, false, cond, not, ◌||◌, eqb, List, [], ◌∷◌, ◌++◌, map, length, get_or, set, replicate, None, filter, sym, refl, ap, ◌∙◌, subst, ⊎_elim, arith}
 use Rattle.std.proofs.lemmas.List.{get_or-replicate, get_or_past, get_or-set_same, get_or-set_other, length-replicate, length-set, length-map, map_push}
 use Rattle.std.proofs.lemmas.Bool.{eqb-true, eq-eqb, ne_eqb, cond-true, cond-false, cases_eq, cases_lt, and_parts}
 use Rattle.faults.specs.declared.Refusal.TheVariants.{NotHolder}
 use Rattle.lists.specs.Edits.{removed, promoted, withdrawn}
 use Rattle.level.specs.declared.doors.DoorState.{DoorState}
 use Rattle.level.specs.declared.doors.DoorState.TheVariants.{Open, Held, Struck}
-use Rattle.level.specs.Checks.{refuses, ◌or◌, claim_fault, show_fault, free_fault, link_fault, forbid_fault, favour_fault}
+use Rattle.level.specs.Checks.{refuses, claim_fault, show_fault, free_fault, link_fault, forbid_fault, favour_fault}
 use Rattle.level.specs.Edits as edit
 use Rattle.level.specs.Meant.{names}
 use Rattle.level.specs.Tables.{among, full, added, noted}

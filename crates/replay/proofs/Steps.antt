@@ -12,7 +12,7 @@ use Rattle.replay.specs.declared.calls.Answer.{Answer}
 use Rattle.replay.specs.declared.calls.Answer.TheVariants.{Claimed, Granted, Refused, NotShown, OneWay as OneWayDone, Link as LinkDone}
 use Rattle.replay.specs.declared.calls.Call.{Call}
 use Rattle.replay.specs.declared.calls.Call.TheVariants.{Claim, Release, Strike, Free, Forbid, Favour, OneWay, Link}
-use Rattle.replay.specs.History.{History, claimed, released, struck, wasted, freed, forbade, favoured, deeds, claims, granted, door, shown, holds, out, lists}
+use Rattle.replay.specs.History.{History, claimed, released, struck, wasted, freed, forbade, favoured, deeds, claims, granted, door, shown, holds, out}
 use Rattle.replay.specs.Law.{Right, LinkAnswer, OneWayAnswer, answer, showing, fault_of_claim, fault_of_show, fault_of_free, fault_of_forbid, fault_of_favour}
 use Rattle.replay.specs.State.{Agrees, Tokens, State, Keeps, token, spent, edited}
 use Rattle.replay.proofs.Agree.{claim_same, free_same, show_same, forbid_same, favour_same, agrees_claimed, agrees_freed, agrees_released, agrees_struck, agrees_forbade, agrees_favoured, agrees_wasted}

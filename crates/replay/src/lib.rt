@@ -1,4 +1,7 @@
 // Whole runs of a level: any list of calls made on a new level over any source, and the law that their answers keep.
+
+#![tactic(auto)]
+
 mod answering;
 mod calls;
 mod running;

@@ -1,9 +1,9 @@
 -- A list is read by asking for the place of every door, and a table by reading every list.
-use Rattle.std.proofs.Common.{◌≡◌, ℕ, ◌+◌, ◌<◌, ◌≤◌, Bool, true, cond, ◌&&◌, ltb, List, [], length, get_or, take, set, replicate, Some, None, Option, sym, refl, ap, ◌∙◌, subst, ⊎_elim, arith}
+use Rattle.std.proofs.Common.{◌≡◌, ℕ, ◌+◌, ◌<◌, ◌≤◌, Bool, true, cond, ◌&&◌, ltb, List, [], length, get_or, take, set, replicate, Some, None, sym, ap, ◌∙◌, subst, ⊎_elim, arith}
 use Rattle.std.proofs.lemmas.List.{ext_get_or, get_or-take, length-take-le, get_or-set_same, get_or-set_other, length-set, length-replicate}
-use Rattle.std.proofs.lemmas.Bool.{cases_eq, cases_lt, and_from, lt-ltb, cond-true}
-use Rattle.matching.specs.Lists.{row, place, lawful, lawful_list, LawfulList, Lawful, PlaceOf}
-use Rattle.matching.proofs.Rows.{lawful_facts, list_from_facts, place_view, place_one}
+use Rattle.std.proofs.lemmas.Bool.{cases_eq, and_from, lt-ltb, cond-true}
+use Rattle.matching.specs.Lists.{row, place, lawful, lawful_list, PlaceOf}
+use Rattle.matching.proofs.Rows.{lawful_facts, list_from_facts, place_view}
 use Rattle.matching.proofs.Kept.{lawful_at_most}
 
 -- a lawful list has at most 96 places

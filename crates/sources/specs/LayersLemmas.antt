@@ -1,9 +1,9 @@
 -- The lists of a reach: their rows, places and lawfulness.
-use Rattle.std.specs.Prelude.{◌≡◌, ℕ, zero, suc, ◌<◌, ◌≤◌, min, true, List, [], ◌∷◌, map, length, take, Some, None, Option, slice_index, slice_index_or, refl}
+use Rattle.std.specs.Prelude.{◌≡◌, ℕ, zero, suc, ◌<◌, ◌≤◌, true, List, [], length, take, Some, None, Option, slice_index, slice_index_or, refl}
 use Rattle.std.proofs.Common.{⊎_elim, sym, ap, subst, ◌∙◌, arith}
 use Rattle.std.proofs.lemmas.List.{length-map, length-take, get_or-take, get_or-map, get_or_past}
 use Rattle.std.proofs.lemmas.Bool.{cases_lt}
-use Rattle.matching.specs.Lists.{row, place, lawful, LawfulList, Lawful, PlaceOf}
+use Rattle.matching.specs.Lists.{row, place, lawful, LawfulList, PlaceOf}
 use Rattle.matching.proofs.Rows.{lawful_facts, lawful_from_facts, place_view, place_from}
 use Rattle.sources.specs.Layers.{reached}
 

@@ -1,4 +1,7 @@
 // Sources of preference lists, all behind the same three questions.
+
+#![tactic(auto)]
+
 mod baking;
 mod file;
 mod ground;

@@ -1,4 +1,7 @@
 // From the text of a survey to a level file, and what is said of it.
+
+#![tactic(auto)]
+
 mod comparing;
 mod failures;
 mod reading;

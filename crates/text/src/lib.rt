@@ -1,4 +1,7 @@
 // Numbers and lines, read from bytes and written to text.
+
+#![tactic(auto)]
+
 mod linking;
 mod numbers;
 mod parts;

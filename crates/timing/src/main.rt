@@ -1,5 +1,8 @@
 // Times both linkers on `level.door`: over the file, over a level, and over a level with edits. The argument is the number of rounds; with 0
 // rounds it prints the linkings and no times.
+
+#![tactic(auto)]
+
 use level::{Level, strike_once};
 use linker::{link, one_way_link};
 use sources::{FileSource, Source};

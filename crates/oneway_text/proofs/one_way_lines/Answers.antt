@@ -10,32 +10,32 @@ use Rattle.oneway_text.proofs.one_way_lines.Goals as goal
 
 pub returns-then-line-n : goal.returns-then-line-n
 returns-then-line-n g c =
-    IfOk-weaker c.refused-line.result (λ s. string_bytes s ≡ refused_line WrongSize) _
-    (λ s e. inl (WrongSize, inl (λ same. c.if-line-n.true (same ∙ sym c.count-n.ensures), refl), e)) c.refused-line.ensures
+    IfOk-weaker c.refused_line.result (λ s. string_bytes s ≡ refused_line WrongSize) _
+    (λ s e. inl (WrongSize, inl (λ same. c.if-line-n.true (same ∙ sym c.count-n.ensures), refl), e)) c.refused_line.ensures
 
-pub returns-in-default : goal.returns-in-default
-returns-in-default g c =
-    IfOk-weaker c.refused-line-in-default.result (λ s. string_bytes s ≡ refused_line UnreadLine) _
-    (λ s e. inl (UnreadLine, inr (inl (c.if-line-n.false ∙ c.count-n.ensures, MatchOption-at_none _ _ c.in-default.is c.in-ok-sides.ensures, refl)), e)) c.refused-line-in-default.ensures
+pub returns-in_default : goal.returns-in_default
+returns-in_default g c =
+    IfOk-weaker c.refused_line-in_default.result (λ s. string_bytes s ≡ refused_line UnreadLine) _
+    (λ s e. inl (UnreadLine, inr (inl (c.if-line-n.false ∙ c.count-n.ensures, MatchOption-at_none _ _ c.in_default.is c.in_ok-sides.ensures, refl)), e)) c.refused_line-in_default.ensures
 
 pub returns-in-Ok : goal.returns-in-Ok
 returns-in-Ok g c =
     let ls = g.S.Source.lists c.args.source.now in
     let line = c.args.line.now in
-    let read = MatchOption-at_some _ _ c.in-Some.sides c.in-Some.is c.in-ok-sides.ensures in
+    let read = MatchOption-at_some _ _ c.in-Some.sides c.in-Some.is c.in_ok-sides.ensures in
     let answer = c.in-Ok.ensures in
-    IfOk-weaker c.linked-text.result (λ s. string_bytes s ≡ linked_text c.deref-in-Ok.result.now c.in-Ok.proposals) _
+    IfOk-weaker c.linked_text.result (λ s. string_bytes s ≡ linked_text c.deref-in-Ok.result.now c.in-Ok.proposals) _
     (λ s e. linked ls line c.deref.result.now (c.if-line-n.false ∙ c.count-n.ensures) read.0 (c.deref.ensures.value ∙ read.1)
-    c.one-way-link.new.out c.deref-in-Ok.result.now c.in-Ok.proposals (string_bytes s) answer.1 answer.2
-    (c.deref-in-Ok.ensures.value ∙ with_items_is c.in-ok-partners.partners c.one-way-link.new.out (c.one-way-link.auto.out ∙ c.deref-mut.ensures.len)) e) c.linked-text.ensures
+    c.one_way_link.new.out c.deref-in-Ok.result.now c.in-Ok.proposals (string_bytes s) answer.1 answer.2
+    (c.deref-in-Ok.ensures.value ∙ with_items_is c.in_ok-partners.partners c.one_way_link.new.out (c.one_way_link.auto.out ∙ c.deref_mut.ensures.len)) e) c.linked_text.ensures
 
 pub returns : goal.returns
 returns g c =
     let ls = g.S.Source.lists c.args.source.now in
     let line = c.args.line.now in
-    let read = MatchOption-at_some _ _ c.in-Some.sides c.in-Some.is c.in-ok-sides.ensures in
+    let read = MatchOption-at_some _ _ c.in-Some.sides c.in-Some.is c.in_ok-sides.ensures in
     let answer = c.in-Err.ensures in
-    IfOk-weaker c.refused-line-in-Err.result (λ s. string_bytes s ≡ refused_line c.in-Err.fault.refusal) _
+    IfOk-weaker c.refused_line-in-Err.result (λ s. string_bytes s ≡ refused_line c.in-Err.fault.refusal) _
     (λ s e. unfit ls line c.deref.result.now (c.if-line-n.false ∙ c.count-n.ensures) read.0 (c.deref.ensures.value ∙ read.1)
-    c.count-n.result c.deref-mut.result.now c.deref-mut-2.result.now c.in-Err.fault (string_bytes s) c.count-n.ensures
-    (c.deref-mut.ensures.len ∙ c.in-ok-partners.ensures.len) (c.deref-mut-2.ensures.len ∙ c.in-ok-memory.ensures.len) answer.2 e) c.refused-line-in-Err.ensures
+    c.count-n.result c.deref_mut.result.now c.deref_mut-2.result.now c.in-Err.fault (string_bytes s) c.count-n.ensures
+    (c.deref_mut.ensures.len ∙ c.in_ok-partners.ensures.len) (c.deref_mut-2.ensures.len ∙ c.in_ok-memory.ensures.len) answer.2 e) c.refused_line-in-Err.ensures

@@ -8,8 +8,8 @@ loop-digit-preserved c =
     let line = c.args.line.now in
     let i = c.loop-digit.digit-index in
     let near : i < length line = omega arith in (
-      below_more _ _ c.loop-digit.invariant.0 (sym c.if-not-is-ascii-digit.ensures.value),
-      c.in-ok-push.ensures.items ∙ ap (λ l. l ++ (get_or line i 0 - 48) ∷ []) c.loop-digit.invariant.1 ∙ sym (ap sides_of (take_more line i 0 near) ∙ map_push (λ d. d - 48) (take i line) (get_or line i 0)),
+      below_more _ _ c.loop-digit.invariant.0 (sym c.if-not-is_ascii_digit.ensures.value),
+      c.in_ok-push.ensures.items ∙ ap (λ l. l ++ (get_or line i 0 - 48) ∷ []) c.loop-digit.invariant.1 ∙ sym (ap sides_of (take_more line i 0 near) ∙ map_push (λ d. d - 48) (take i line) (get_or line i 0)),
     )
 
 pub returns : goal.returns

@@ -2,13 +2,14 @@ use Rattle.std.proofs.Common.{◌*◌, ◌%◌, ◌≤◌, ap, ◌∙◌, arith}
 use Rattle.codec.specs.Blocks.{weighed, block_check}
 use Rattle.codec.proofs.Weights.{sum_more, sum_all, weight_bound}
 use Rattle.codec.proofs.block.block_check.Goals as goal
+use Rattle.codec.proofs.block.block_check.Goals.{After-from}
 
 -- one byte adds little enough
-bounded : (c : goal.After-from) → c.loop-b.weight * c.from.result ≤ 130050
+bounded : (c : After-from) → c.loop-b.weight * c.from.result ≤ 130050
 bounded c = weight_bound c.loop-b.weight c.from.result (omega arith) (omega arith)
 
-pub overflow-add-sum : goal.overflow-add-sum
-overflow-add-sum c = omega (arith, bounded c)
+pub overflow_add-sum : goal.overflow_add-sum
+overflow_add-sum c = omega (arith, bounded c)
 
 pub loop-b-init : goal.loop-b-init
 loop-b-init c = (c.body-b-items.ensures.len, omega arith, omega arith, omega arith)

@@ -10,18 +10,18 @@ loop-door-init c =
     let few = (contents c.args.n c.args.bytes.now c.requires).few in
     (ap length c.empty-table.ensures ∙ length-replicate {A = List ℕ} (min c.args.n 96) [] ∙ omega arith, λ e l. absurd (omega arith))
 
-pub block-of-requires : goal.block-of-requires
-block-of-requires c = omega (arith, (contents c.args.n c.args.bytes.now c.requires).size)
+pub block_of-requires : goal.block_of-requires
+block_of-requires c = omega (arith, (contents c.args.n c.args.bytes.now c.requires).size)
 
 pub loop-door-preserved : goal.loop-door-preserved
 loop-door-preserved c =
     let n = c.args.n in
     let bytes = c.args.bytes.now in
     let d = c.loop-door.door in
-    let list = c.list-in.result.now in
+    let list = c.list_in.result.now in
     let old = lists c.loop-door.table in
     let next : d + 1 ≡ suc d = omega arith in
-    let read : list ≡ list_in (block_of bytes (suc d)) = c.list-in.ensures ∙ ap list_in (c.block-of.ensures.value ∙ ap (block_of bytes) next) in
+    let read : list ≡ list_in (block_of bytes (suc d)) = c.list_in.ensures ∙ ap list_in (c.block_of.ensures.value ∙ ap (block_of bytes) next) in
     let taken = put_takes c.put.result n (length old) d list (list_in (block_of bytes (suc d))) c.put.ensures.answer c.loop-door.invariant.0 c.loop-door-test.true read
     ((contents n bytes c.requires).each d c.loop-door-test.true) in
     let after : lists c.put.new.self ≡ set old d list = put_after c.put.result (lists c.put.new.self) old d list c.put.ensures.after taken in (

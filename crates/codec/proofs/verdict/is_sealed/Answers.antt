@@ -7,14 +7,14 @@ use Rattle.codec.proofs.verdict.is_sealed.Goals as goal
 pub returns-then-block-low : goal.returns-then-block-low
 unfolding checked
 returns-then-block-low c =
-    let e = two_bytes c.to-le-bytes.result c.block-check.result c.block-check.type-inv c.to-le-bytes.ensures in
+    let e = two_bytes c.to_le_bytes.result c.block_check.result c.block_check.type_inv c.to_le_bytes.ensures in
     let low = ap (λ (s : List ℕ). get_or s 0 0) e in
     let high = ap (λ (s : List ℕ). get_or s 1 0) e in
-    grind (arith, nat_tests, c.block-check.ensures)
+    grind (arith, nat_tests, c.block_check.ensures)
 
 pub returns-else-block-low : goal.returns-else-block-low
 unfolding checked
 returns-else-block-low c =
-    let e = two_bytes c.to-le-bytes.result c.block-check.result c.block-check.type-inv c.to-le-bytes.ensures in
+    let e = two_bytes c.to_le_bytes.result c.block_check.result c.block_check.type_inv c.to_le_bytes.ensures in
     let low = ap (λ (s : List ℕ). get_or s 0 0) e in
-    grind (arith, nat_tests, c.block-check.ensures)
+    grind (arith, nat_tests, c.block_check.ensures)

@@ -7,4 +7,4 @@ pub returns : goal.returns
 returns c =
     let h = c.args.head.now in
     let l = c.args.list.now in
-    c.seal.ensures ∙ sealed_body (h ++ l) c.write-body.new.block (omega (arith, length-append h l)) (omega arith) c.write-body.ensures
+    c.seal.ensures ∙ sealed_body (h ++ l) c.write_body.new.block (omega (arith, length-append h l)) (omega arith) c.write_body.ensures

@@ -7,5 +7,5 @@ pub returns : goal.returns
 returns c =
     let h = c.args.head.now in
     let l = c.args.list.now in
-    body_laid h l c.copy-from-slice.new.self c.copy-from-slice-2.new.self c.clear.new.stretch (post_of 0 (length h - 0) c.args.block.now) (length h + length l) _ _ _
-    c.copy-from-slice.ensures.after c.copy-from-slice-2.ensures.after refl c.requires.1 c.clear.ensures (omega arith)
+    body_laid h l c.copy_from_slice.new.self c.copy_from_slice-2.new.self c.clear.new.stretch (post_of 0 (length h - 0) c.args.block.now) (length h + length l) _ _ _
+    c.copy_from_slice.ensures.after c.copy_from_slice-2.ensures.after refl c.requires.1 c.clear.ensures (omega arith)

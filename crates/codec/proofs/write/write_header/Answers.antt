@@ -4,4 +4,4 @@ use Rattle.codec.proofs.write.write_header.Goals as goal
 
 pub returns : goal.returns
 unfolding header
-returns c = (omega arith, c.write-block.ensures)
+returns c = (omega arith, c.write_block.ensures)

@@ -4,4 +4,4 @@ use Rattle.codec.proofs.write.write_row.Goals as goal
 
 pub returns : goal.returns
 unfolding row_block
-returns c = ((omega arith, omega arith), c.write-block.ensures)
+returns c = ((omega arith, omega arith), c.write_block.ensures)

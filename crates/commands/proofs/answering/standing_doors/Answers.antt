@@ -9,8 +9,8 @@ pub loop-door-preserved : goal.loop-door-preserved
 loop-door-preserved c =
     let door = c.loop-door.door in
     let v = view c.args.level.now in
-    c.in-ok-push.ensures.items ∙ ap (λ l. l ++ not c.is-struck.result ∷ []) c.loop-door.invariant
-    ∙ ap (λ b. map (stands v) (range_with_len 0 door) ++ not b ∷ []) c.is-struck.ensures ∙ sym (map-range_with_len_more (stands v) 0 door door (omega arith))
+    c.in_ok-push.ensures.items ∙ ap (λ l. l ++ not c.is_struck.result ∷ []) c.loop-door.invariant
+    ∙ ap (λ b. map (stands v) (range_with_len 0 door) ++ not b ∷ []) c.is_struck.ensures ∙ sym (map-range_with_len_more (stands v) 0 door door (omega arith))
 
 pub returns : goal.returns
 returns c = c.loop-door.invariant ∙ ap (λ n. map (stands (view c.args.level.now)) (range_with_len 0 n)) (omega (arith, c.count-door-end.ensures))

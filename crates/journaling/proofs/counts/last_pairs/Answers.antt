@@ -8,7 +8,7 @@ pub loop-answer-preserved : goal.loop-answer-preserved
 loop-answer-preserved c =
     let item = c.answer-item.result in
     let more = fold_more pairs_after 0 c.args.answers.now c.loop-answer.answer-index item (omega arith) in
-    c.pairs-after-last.ensures ∙ ap (λ n. pairs_after n item) c.loop-answer.invariant ∙ ap (pairs_after _) c.answer-item.is ∙ sym more
+    c.pairs_after-last.ensures ∙ ap (λ n. pairs_after n item) c.loop-answer.invariant ∙ ap (pairs_after _) c.answer-item.is ∙ sym more
 
 pub returns : goal.returns
 returns c = c.loop-answer.invariant ∙ ap last_pairs (take_all c.loop-answer.answer-index c.args.answers.now (omega arith))

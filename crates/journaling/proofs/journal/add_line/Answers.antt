@@ -9,6 +9,6 @@ unfolding encode
 returns c =
     let old = string_bytes c.args.text.now in
     let line = answer_text c.args.standing.now c.args.answer.now in
-    c.in-ok-push.ensures.bytes
-    ∙ ap (λ l. l ++ codes "\n") (c.in-ok-push-str.ensures.bytes ∙ ap (λ w. old ++ w) (c.as-str.ensures.value ∙ c.in-ok-line.ensures))
+    c.in_ok-push.ensures.bytes
+    ∙ ap (λ l. l ++ codes "\n") (c.in_ok-push_str.ensures.bytes ∙ ap (λ w. old ++ w) (c.as_str.ensures.value ∙ c.in_ok-line.ensures))
     ∙ append_assoc old line (codes "\n")

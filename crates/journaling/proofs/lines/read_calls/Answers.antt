@@ -7,8 +7,8 @@ loop-rest-init c = read_none c.args.doors c.args.input.now _ c.new-calls.ensures
 
 pub loop-rest-preserved : goal.loop-rest-preserved
 loop-rest-preserved c =
-    read_more c.args.doors c.args.input.now c.loop-rest.rest.now c.first-line.result.1.now c.first-line.result.0.now (vec_items c.loop-rest.calls) _ c.in-ok-call.call c.loop-rest.invariant
-    c.first-line.ensures.lines c.in-ok-call.ensures c.in-ok-push.ensures.items
+    read_more c.args.doors c.args.input.now c.loop-rest.rest.now c.first_line.result.1.now c.first_line.result.0.now (vec_items c.loop-rest.calls) _ c.in_ok-call.call c.loop-rest.invariant
+    c.first_line.ensures.lines c.in_ok-call.ensures c.in_ok-push.ensures.items
 
 pub returns : goal.returns
 returns c = read_all c.args.doors c.args.input.now c.loop-rest.rest.now _ c.loop-rest.invariant (true-eqb _ 0 c.loop-rest-test.ensures)

@@ -1,4 +1,4 @@
-use Rattle.std.proofs.Common.{◌≡◌, ◌+◌, ◌-◌, ◌++◌, length, string_bytes, ap, ◌∙◌, arith}
+use Rattle.std.proofs.Common.{◌≡◌, ◌+◌, ◌-◌, ◌++◌, string_bytes, ap, ◌∙◌, arith}
 use Rattle.std.specs.List.{range_with_len, flat_map}
 use Rattle.journaling.specs.Answers.{tally}
 use Rattle.journaling.specs.Summary.{refusal_line, refusal_lines}
@@ -10,8 +10,8 @@ loop-refusal-preserved c =
     let answers = c.args.answers.now in
     let v = c.loop-refusal.refusal in
     let old = string_bytes c.loop-refusal.text in
-    lines_more (λ r. refusal_line r (tally answers r)) 1 (v - 1) (v + 1 - 1) v (string_bytes c.args.text.now) old (string_bytes c.add-refusal.new.text) (omega (arith, c.loop-refusal.auto.refusal))
-    (omega (arith, c.loop-refusal.auto.refusal)) c.loop-refusal.invariant (c.in-ok-add-refusal.ensures ∙ ap (λ n. old ++ refusal_line v n) c.count.ensures)
+    lines_more (λ r. refusal_line r (tally answers r)) 1 (v - 1) (v + 1 - 1) v (string_bytes c.args.text.now) old (string_bytes c.add_refusal.new.text) (omega (arith, c.loop-refusal.auto.refusal))
+    (omega (arith, c.loop-refusal.auto.refusal)) c.loop-refusal.invariant (c.in_ok-add_refusal.ensures ∙ ap (λ n. old ++ refusal_line v n) c.count.ensures)
 
 pub returns : goal.returns
 unfolding refusal_lines

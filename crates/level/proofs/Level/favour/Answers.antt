@@ -14,7 +14,7 @@ note-requires c =
     let b = c.args.b in (
       omega arith,
       refuses_none (full (λ f. in_order a b f.first f.second) v.favours) TableFull a
-          (or_none (link_fault v a b or unlisted v a b) (no_room_for_favour v a b) (sym c.favour-fault.ensures ∙ c.in-default.is)).1,
+          (or_none (link_fault v a b or unlisted v a b) (no_room_for_favour v a b) (sym c.favour_fault.ensures ∙ c.in_default.is)).1,
     )
 
 pub returns : goal.returns
@@ -22,7 +22,7 @@ returns c =
     let v = view c.args.self.now in
     let a = c.args.a in
     let b = c.args.b in (
-      sym c.favour-fault.ensures ∙ c.in-default.is,
+      sym c.favour_fault.ensures ∙ c.in_default.is,
       same_view c.promote.ensures refl refl
-          (c.note.ensures ∙ ap (λ t. noted (λ f. in_order a b f.first f.second) (record { first = a; second = b; turn = t }) v.favours) c.saturating-add-turn.ensures) refl c.saturating-add-turn.ensures,
+          (c.note.ensures ∙ ap (λ t. noted (λ f. in_order a b f.first f.second) (record { first = a; second = b; turn = t }) v.favours) c.saturating_add-turn.ensures) refl c.saturating_add-turn.ensures,
     )

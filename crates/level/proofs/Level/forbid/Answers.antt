@@ -13,10 +13,10 @@ add-requires c =
     let v = view c.args.self.now in
     let a = c.args.a in
     let b = c.args.b in
-    (omega arith, refuses_none (full (λ p. joins a b p.first p.second) v.pairs) TableFull a (or_none (link_fault v a b) (no_room_for_pair v a b) (sym c.forbid-fault.ensures ∙ c.in-default.is)).1)
+    (omega arith, refuses_none (full (λ p. joins a b p.first p.second) v.pairs) TableFull a (or_none (link_fault v a b) (no_room_for_pair v a b) (sym c.forbid_fault.ensures ∙ c.in_default.is)).1)
 
 pub returns : goal.returns
 returns c = (
-  sym c.forbid-fault.ensures ∙ c.in-default.is,
+  sym c.forbid_fault.ensures ∙ c.in_default.is,
   same_view (c.remove-2.ensures ∙ ap (removed c.args.b c.args.a) c.remove.ensures) refl refl c.end.ensures c.add.ensures refl,
 )

@@ -5,6 +5,6 @@ use Rattle.level.proofs.briefly.strike_once.Goals as goal
 
 pub returns : goal.returns
 returns c =
-    let granted = c.in-ok-claim.ensures in
-    spent_at_once (view c.args.level.now) (view c.claim.new.self) (view c.strike.new.self) c.args.door c.in-ok-claim.claim struck_out c.strike.result
+    let granted = c.in_ok-claim.ensures in
+    spent_at_once (view c.args.level.now) (view c.claim.new.self) (view c.strike.new.self) c.args.door c.in_ok-claim.claim struck_out c.strike.result
     (claim_within c.args.level.now c.args.door granted.0) granted c.strike.ensures

@@ -8,8 +8,8 @@ use Rattle.linker.proofs.Standing.{told_still, still_told, rank_own}
 use Rattle.linker.proofs.kept.next_kept.Goals as goal
 use Rattle.linker.proofs.kept.next_kept.Goals.{After-door-y}
 
-pub overflow-add-cell : goal.overflow-add-cell
-overflow-add-cell c = omega (arith, c.requires.short c.args.x, row_short (lists_in c.args.tables) c.args.x c.requires.sound.legal, c.requires.sound.legal.few)
+pub overflow_add-cell : goal.overflow_add-cell
+overflow_add-cell c = omega (arith, c.requires.short c.args.x, row_short (lists_in c.args.tables) c.args.x c.requires.sound.legal, c.requires.sound.legal.few)
 
 -- the place is on the kept part of the list, and the door that is asked about stands there
 the_door : (c : After-door-y) → (c.loop-k.k < length (row (lists_in c.args.tables) c.args.x)) × (c.loop-k.k ≤ get_or c.args.keep.now c.args.x 0)

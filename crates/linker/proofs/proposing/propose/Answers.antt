@@ -1,26 +1,25 @@
-use Rattle.std.proofs.Common.{◌≡◌, ℕ, ◌<◌, ◌≤◌, length, get_or, set, Some, None, sym, ap, ◌∙◌, subst, arith}
+use Rattle.std.proofs.Common.{◌≡◌, ◌<◌, length, get_or, Some, sym, ◌∙◌, subst, arith}
 use Rattle.matching.specs.Lists.{row}
-use Rattle.matching.proofs.Bridge.{accept_pairing}
 use Rattle.linker.specs.Meanings.{lists_in}
-use Rattle.linker.specs.Holders.{ranks, NextKept, Proposed}
+use Rattle.linker.specs.Holders.{ranks, NextKept}
 use Rattle.linker.proofs.Asked.{told_door}
 use Rattle.linker.proofs.Standing.{marked_short, tables_count, told_rank}
 use Rattle.linker.proofs.Asking.{proposed_none, proposed_held, proposed_last, proposed_next, held_door, found_accepted}
 use Rattle.linker.proofs.proposing.propose.Goals as goal
 use Rattle.linker.proofs.proposing.propose.Goals.{After-door-y, After-place}
 
-pub next-kept-requires : goal.next-kept-requires
-next-kept-requires c =
+pub next_kept-requires : goal.next_kept-requires
+next_kept-requires c =
     record {
       sound = c.requires.sound;
       door = c.requires.door;
       short = marked_short (lists_in c.args.tables) c.requires.sound.legal c.args.holder.now c.args.keep.now c.args.first.now c.requires.marked;
     }
 
-pub returns-in-default : goal.returns-in-default
-returns-in-default c =
+pub returns-in_default : goal.returns-in_default
+returns-in_default c =
     proposed_none (lists_in c.args.tables) c.requires.sound.legal c.args.holder.now c.args.keep.now c.args.first.now c.requires.marked c.requires.under c.args.x
-    (λ y s b. c.in-default.ensures y s (omega (arith, b, c.cell.ensures)))
+    (λ y s b. c.in_default.ensures y s (omega (arith, b, c.cell.ensures)))
 
 -- what is found on the list of x
 the_next : (c : After-door-y) → (c.args.x < length (lists_in c.args.tables))

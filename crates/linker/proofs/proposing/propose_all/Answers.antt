@@ -11,13 +11,13 @@ pub loop-p-init : goal.loop-p-init
 loop-p-init c =
     let ls = lists_in c.args.tables in (
       c.begin.ensures.marked,
-      underway_start ls c.requires.sound.legal (ranks ls) (orders ls c.requires.sound.legal) (lasts c.begin.new.holder) c.begin.ensures.own_val,
+      underway_start ls c.requires.sound.legal (ranks ls) (orders ls c.requires.sound.legal) (lasts c.begin.new.holder) c.begin.ensures.own,
       λ z b. absurd (omega arith),
     )
 
 pub loop-p-preserved : goal.loop-p-preserved
 loop-p-preserved c =
-    let e = c.propose-from.ensures in (
+    let e = c.propose_from.ensures in (
       e.marked,
       e.under,
       λ z b. e.settles z (⊎_elim (λ i. inl i) (λ n. inr (c.loop-p.invariant.2 z (omega arith))) (cases_eq z c.loop-p.p)),

@@ -1,6 +1,5 @@
-use Rattle.std.proofs.Common.{◌≡◌, Some, None, sym, ap, ◌∙◌, inl, inr, ⊎_elim, arith}
+use Rattle.std.proofs.Common.{inl, inr, ⊎_elim, arith}
 use Rattle.std.proofs.lemmas.Bool.{cases_eq}
-use Rattle.linker.specs.Meanings.{lists_in}
 use Rattle.linker.proofs.Standing.{tables_count}
 use Rattle.linker.proofs.proposing.propose_from.Goals as goal
 
@@ -15,5 +14,5 @@ loop-next-preserved c =
 
 pub returns : goal.returns
 returns c =
-    let e = c.in-default.ensures in
+    let e = c.in_default.ensures in
     record { marked = e.marked; under = e.under; settles = λ z s. e.settles z (c.loop-next.invariant.3 z s) (λ i. grind arith) }

@@ -1,20 +1,20 @@
-use Rattle.std.proofs.Common.{◌+◌, ◌*◌, length, set, sym, ap, subst, arith}
+use Rattle.std.proofs.Common.{◌+◌, ◌*◌, set, sym, ap, subst, arith}
 use Rattle.linker.specs.Tables.{ReadTo}
 use Rattle.linker.proofs.Written.{row_room, written_more}
 use Rattle.linker.proofs.reading.read_lists.Goals as goal
 
-pub read-list-requires : goal.read-list-requires
-read-list-requires g c =
+pub read_list-requires : goal.read_list-requires
+read_list-requires g c =
     let n = c.count-count.result in
     let e = ap (λ k. k * k) c.count-count.ensures in
     let room = row_room n c.loop-x.x (omega arith) in
-    record { lists-room = omega (arith, e, room, c.requires.lists-room, c.count-count.ensures); places-room = omega (arith, e, room, c.requires.places-room, c.count-count.ensures) }
+    record { lists_room = omega (arith, e, room, c.requires.lists_room, c.count-count.ensures); places_room = omega (arith, e, room, c.requires.places_room, c.count-count.ensures) }
 
 pub loop-x-preserved : goal.loop-x-preserved
 loop-x-preserved g c =
     let s = c.args.source.now in
     let ls = g.S.Source.lists s in
     let at = c.loop-x in
-    subst (λ v. ReadTo ls (at.x + 1) c.read-list.new.lists c.read-list.new.places (set at.sizes at.x v)) (sym c.length.ensures)
-    (written_more ls c.count-count.result at.x at.lists at.places at.sizes c.read-list.new.lists c.read-list.new.places (g.met.S.Source.sound s)
-    c.count-count.ensures (omega arith) (omega (arith, c.requires.sizes-room, c.count-count.ensures)) at.invariant c.read-list.ensures.read c.read-list.ensures.lists-before c.read-list.ensures.places-before)
+    subst (λ v. ReadTo ls (at.x + 1) c.read_list.new.lists c.read_list.new.places (set at.sizes at.x v)) (sym c.length.ensures)
+    (written_more ls c.count-count.result at.x at.lists at.places at.sizes c.read_list.new.lists c.read_list.new.places (g.met.S.Source.sound s)
+    c.count-count.ensures (omega arith) (omega (arith, c.requires.sizes_room, c.count-count.ensures)) at.invariant c.read_list.ensures.read c.read_list.ensures.lists_before c.read_list.ensures.places_before)

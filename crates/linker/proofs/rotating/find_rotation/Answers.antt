@@ -1,4 +1,4 @@
-use Rattle.std.proofs.Common.{◌≡◌, ℕ, ◌+◌, ◌-◌, ◌<◌, ◌≤◌, length, get_or, replicate, sym, ap, ◌∙◌, subst, arith}
+use Rattle.std.proofs.Common.{◌≡◌, ◌+◌, length, get_or, sym, ap, ◌∙◌, subst, arith}
 use Rattle.matching.proofs.Runs.{same_everywhere}
 use Rattle.linker.specs.Meanings.{lists_in}
 use Rattle.linker.specs.Rounds.{Double, Walked}
@@ -31,11 +31,11 @@ onward-x-requires c =
       marked = c.requires.lowered.marked;
       ahead = i.1;
       double = subst (Double ls c.args.holder.now) (sym w.2.here) (walk_double ls c.requires.sound.legal c.args.holder.now w.0 c.args.d w.1 c.loop-seen.len);
-      room = omega (arith, c.loop-seen.auto.second, c.requires.second-room);
+      room = omega (arith, c.loop-seen.auto.second, c.requires.second_room);
     }
 
-pub overflow-add-len : goal.overflow-add-len
-overflow-add-len c = omega (arith, c.loop-seen.invariant.2.2.few, c.requires.sound.legal.few)
+pub overflow_add-len : goal.overflow_add-len
+overflow_add-len c = omega (arith, c.loop-seen.invariant.2.2.few, c.requires.sound.legal.few)
 
 pub loop-seen-preserved : goal.loop-seen-preserved
 loop-seen-preserved c =
@@ -49,8 +49,8 @@ loop-seen-preserved c =
     let more : Walked ls w.0.1 c.args.d (c.loop-seen.len + 1) c.onward-x.result c.put-in-loop-seen.new.cells c.put.new.cells c.onward-x.new.second =
     rw (c.put.ensures, c.put-in-loop-seen.ensures)
     (walked_more ls law h w.0 c.args.d w.1 c.loop-seen.len c.loop-seen.x c.loop-seen.sequence c.loop-seen.seen c.loop-seen.second w.2 c.onward-x.new.second
-    c.onward-x.result s.0 s.1 s.2 (sym c.cell.ensures ∙ c.loop-seen-test.true) (omega (arith, n, c.loop-seen.auto.sequence, c.requires.sequence-room))
-    (omega (arith, n, c.loop-seen.auto.seen, c.fill.ensures.len, c.requires.seen-room)) s.3) in (
+    c.onward-x.result s.0 s.1 s.2 (sym c.cell.ensures ∙ c.loop-seen-test.true) (omega (arith, n, c.loop-seen.auto.sequence, c.requires.sequence_room))
+    (omega (arith, n, c.loop-seen.auto.seen, c.fill.ensures.len, c.requires.seen_room)) s.3) in (
       omega (arith, more.here, walk_below ls law h w.0 c.args.d w.1 (c.loop-seen.len + 1), n),
       s.3.ahead,
       (w.0, w.1, more),
@@ -81,7 +81,7 @@ returns c =
         c.cell-2.result,
         rw e
             (walked_round ls law c.args.holder.now w.0 c.args.d w.1 c.loop-seen.len c.loop-seen.x c.loop-seen.sequence c.loop-seen.seen c.loop-seen.second w.2 old
-            (omega (arith, n, c.loop-seen.auto.sequence, c.requires.sequence-room))),
+            (omega (arith, n, c.loop-seen.auto.sequence, c.requires.sequence_room))),
       );
       lowered = record { marked = c.requires.lowered.marked; way = c.requires.lowered.way; ahead = c.loop-seen.invariant.1; single = c.requires.lowered.single };
       ordered = omega (
@@ -89,5 +89,5 @@ returns c =
         e,
         (walked_back ls law c.args.holder.now w.0 c.args.d w.1 c.loop-seen.len c.loop-seen.x c.loop-seen.sequence c.loop-seen.seen c.loop-seen.second w.2 old).0,
       );
-      within = omega (arith, n, w.2.few, c.requires.sequence-room);
+      within = omega (arith, n, w.2.few, c.requires.sequence_room);
     }

@@ -1,4 +1,4 @@
-use Rattle.std.proofs.Common.{ℕ, ◌-◌, ◌<◌}
+use Rattle.std.proofs.Common.{◌-◌, ◌<◌}
 use Rattle.matching.specs.TwoWay.{Lowest}
 use Rattle.matching.proofs.Holders.{OnTheWay}
 use Rattle.linker.specs.Meanings.{lists_in}

@@ -1,4 +1,4 @@
-use Rattle.std.proofs.Common.{◌≡◌, ℕ, ◌<◌, ◌≤◌, length, get_or, Some, None, sym, ap, ◌∙◌, subst, arith}
+use Rattle.std.proofs.Common.{ℕ, ◌<◌, ◌≤◌, get_or, Some, ◌∙◌, subst, arith}
 use Rattle.matching.specs.Lists.{row}
 use Rattle.linker.specs.Meanings.{lists_in}
 use Rattle.linker.specs.Holders.{NextKept}
@@ -9,16 +9,16 @@ use Rattle.linker.proofs.Stepping.{finds, finds_first, finds_second, stepped}
 use Rattle.linker.proofs.rotating.onward.Goals as goal
 use Rattle.linker.proofs.rotating.onward.Goals.{After-unwrap-k, After-max-start}
 
-pub next-kept-requires : goal.next-kept-requires
-next-kept-requires c =
+pub next_kept-requires : goal.next_kept-requires
+next_kept-requires c =
     record {
       sound = c.requires.sound;
       door = c.requires.door;
       short = marked_short (lists_in c.args.tables) c.requires.sound.legal c.args.holder.now c.args.keep.now c.args.first.now c.requires.marked;
     }
 
-pub next-kept-requires-2 : goal.next-kept-requires-2
-next-kept-requires-2 c =
+pub next_kept-requires-2 : goal.next_kept-requires-2
+next_kept-requires-2 c =
     record {
       sound = c.requires.sound;
       door = c.requires.door;
@@ -28,7 +28,7 @@ next-kept-requires-2 c =
 pub unwrap-k-requires : goal.unwrap-k-requires
 unwrap-k-requires c =
     let ls = lists_in c.args.tables in
-    finds ls c.args.keep.now c.args.x c.cell.result c.next-kept.result c.next-kept.ensures
+    finds ls c.args.keep.now c.args.x c.cell.result c.next_kept.result c.next_kept.ensures
     (λ n. finds_first ls c.requires.sound.legal c.args.holder.now c.args.keep.now c.args.first.now c.requires.marked c.args.x (omega (arith, c.requires.door, tables_count c.args.tables))
     c.args.second.now c.requires.ahead c.requires.double (λ y s b. n y s (omega (arith, b, c.cell.ensures))))
 
@@ -37,12 +37,12 @@ the_first : (c : After-unwrap-k) → NextKept (lists_in c.args.tables) c.args.ke
 the_first c =
     let ls = lists_in c.args.tables in
     subst (λ s. NextKept ls c.args.keep.now c.args.x s (Some c.unwrap-k.result)) c.cell.ensures
-    (subst (NextKept ls c.args.keep.now c.args.x c.cell.result) c.unwrap-k.ensures c.next-kept.ensures)
+    (subst (NextKept ls c.args.keep.now c.args.x c.cell.result) c.unwrap-k.ensures c.next_kept.ensures)
 
-pub overflow-add-k : goal.overflow-add-k
-overflow-add-k c =
+pub overflow_add-k : goal.overflow_add-k
+overflow_add-k c =
     let ls = lists_in c.args.tables in
-    omega (arith, (the_first (goal.at.overflow-add-k c).After-unwrap-k).1, row_short ls c.args.x c.requires.sound.legal, c.requires.sound.legal.few)
+    omega (arith, (the_first (goal.at.overflow_add-k c).After-unwrap-k).1, row_short ls c.args.x c.requires.sound.legal, c.requires.sound.legal.few)
 
 -- where the second search starts
 the_start : (c : After-max-start) → (c.unwrap-k.result < c.max-start.result) × ((z : ℕ) → get_or c.args.second.now c.args.x 0 ≤ z → c.unwrap-k.result < z → c.max-start.result ≤ z)
@@ -52,7 +52,7 @@ pub unwrap-at-requires : goal.unwrap-at-requires
 unwrap-at-requires c =
     let ls = lists_in c.args.tables in
     let s = the_start (goal.at.unwrap-at-requires c).After-max-start in
-    finds ls c.args.keep.now c.args.x c.max-start.result c.next-kept-2.result c.next-kept-2.ensures
+    finds ls c.args.keep.now c.args.x c.max-start.result c.next_kept-2.result c.next_kept-2.ensures
     (finds_second ls c.requires.sound.legal c.args.holder.now c.args.keep.now c.args.first.now c.requires.marked c.args.x (omega (arith, c.requires.door, tables_count c.args.tables))
     c.args.second.now c.requires.ahead c.requires.double c.unwrap-k.result c.max-start.result (the_first (goal.at.unwrap-at-requires c).After-unwrap-k) s.0 s.1)
 
@@ -62,7 +62,7 @@ returns c =
     let ls = lists_in t in
     let s = the_start (goal.at.returns c).After-max-start in
     let q : NextKept ls c.args.keep.now c.args.x c.max-start.result (Some c.unwrap-at.result) =
-    subst (NextKept ls c.args.keep.now c.args.x c.max-start.result) c.unwrap-at.ensures c.next-kept-2.ensures in (
+    subst (NextKept ls c.args.keep.now c.args.x c.max-start.result) c.unwrap-at.ensures c.next_kept-2.ensures in (
       get_or (row ls c.args.x) c.unwrap-k.result 0,
       c.door-y.result,
       c.unwrap-at.result,

@@ -1,4 +1,4 @@
-use Rattle.std.proofs.Common.{◌≡◌, length, get_or, ap, ◌∙◌, arith}
+use Rattle.std.proofs.Common.{length, get_or, ap, ◌∙◌, arith}
 use Rattle.matching.proofs.Runs.{same_everywhere}
 use Rattle.linker.proofs.rotating.reduce.Goals as goal
 

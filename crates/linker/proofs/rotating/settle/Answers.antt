@@ -1,12 +1,12 @@
-use Rattle.std.proofs.Common.{◌≡◌, ◌<◌, sym, ◌∙◌, subst, ⊎_elim, arith}
+use Rattle.std.proofs.Common.{sym, subst, ⊎_elim, arith}
 use Rattle.std.proofs.lemmas.Bool.{cases_eq}
 use Rattle.linker.specs.Meanings.{lists_in}
 use Rattle.linker.specs.Rounds.{Single, HasTwo}
 use Rattle.linker.proofs.Standing.{marked_short}
 use Rattle.linker.proofs.rotating.settle.Goals as goal
 
-pub has-two-requires : goal.has-two-requires
-has-two-requires c =
+pub has_two-requires : goal.has_two-requires
+has_two-requires c =
     record {
       sound = c.requires.sound;
       door = c.requires.door;
@@ -20,10 +20,10 @@ rotate-requires c =
       sound = c.requires.sound;
       door = c.requires.door;
       lowered = l.invariant;
-      double = subst (HasTwo (lists_in c.args.tables) l.holder c.args.d) c.loop-tables-test.true (c.has-two.ensures l.holder l.invariant.marked l.invariant.way);
-      second-room = omega (arith, l.auto.second, c.requires.second-room);
-      sequence-room = omega (arith, l.auto.sequence, c.requires.sequence-room);
-      seen-room = omega (arith, l.auto.seen, c.requires.seen-room);
+      double = subst (HasTwo (lists_in c.args.tables) l.holder c.args.d) c.loop-tables-test.true (c.has_two.ensures l.holder l.invariant.marked l.invariant.way);
+      second_room = omega (arith, l.auto.second, c.requires.second_room);
+      sequence_room = omega (arith, l.auto.sequence, c.requires.sequence_room);
+      seen_room = omega (arith, l.auto.seen, c.requires.seen_room);
     }
 
 pub returns : goal.returns
@@ -31,7 +31,7 @@ returns c =
     let ls = lists_in c.args.tables in
     let l = c.loop-tables in
     let one : Single ls l.holder c.args.d =
-    subst (HasTwo ls l.holder c.args.d) c.loop-tables-test.false (c.has-two.ensures l.holder l.invariant.marked l.invariant.way) in
+    subst (HasTwo ls l.holder c.args.d) c.loop-tables-test.false (c.has_two.ensures l.holder l.invariant.marked l.invariant.way) in
     record {
       marked = l.invariant.marked;
       way = l.invariant.way;

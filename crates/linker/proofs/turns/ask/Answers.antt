@@ -5,8 +5,8 @@ use Rattle.linker.proofs.Written.{row_short}
 use Rattle.linker.proofs.Proposed.{ask_refused, ask_taken}
 use Rattle.linker.proofs.turns.ask.Goals as goal
 
-pub overflow-add-k : goal.overflow-add-k
-overflow-add-k c = omega (arith, c.requires.within, row_short (lists_in c.args.tables) c.args.x c.requires.sound.legal, c.requires.sound.legal.few)
+pub overflow_add-k : goal.overflow_add-k
+overflow_add-k c = omega (arith, c.requires.within, row_short (lists_in c.args.tables) c.args.x c.requires.sound.legal, c.requires.sound.legal.few)
 
 pub returns-then-place : goal.returns-then-place
 returns-then-place c sides d k g n =

@@ -12,8 +12,8 @@ pub loop-x-init : goal.loop-x-init
 loop-x-init c =
     let t = c.args.tables in
     let n = tabled_length t.count t.lists.now t.sizes.now in
-    let next : c.fill.new.self ≡ replicate (length (lists_in t)) 0 = c.fill.ensures.after (λ y e. e) ∙ ap (λ m. replicate m 0) (c.requires.next-room ∙ sym n) in
-    let held : c.fill-2.new.self ≡ replicate (length (lists_in t)) 65535 = c.fill-2.ensures.after (λ y e. e) ∙ ap (λ m. replicate m 65535) (c.requires.held-room ∙ sym n) in (
+    let next : c.fill.new.self ≡ replicate (length (lists_in t)) 0 = c.fill.ensures.after (λ y e. e) ∙ ap (λ m. replicate m 0) (c.requires.next_room ∙ sym n) in
+    let held : c.fill-2.new.self ≡ replicate (length (lists_in t)) 65535 = c.fill-2.ensures.after (λ y e. e) ∙ ap (λ m. replicate m 65535) (c.requires.held_room ∙ sym n) in (
       subst (λ v. Going (lists_in t) c.args.sides.now 0 65535 0 v c.fill-2.new.self) (sym next)
           (subst (Going (lists_in t) c.args.sides.now 0 65535 0 (replicate (length (lists_in t)) 0)) (sym held) (going_none (lists_in t) c.args.sides.now)),
       omega arith,

@@ -1,4 +1,4 @@
-use Rattle.std.proofs.Common.{◌≡◌, length, sym, refl, subst, arith}
+use Rattle.std.proofs.Common.{length, sym, refl, subst, arith}
 use Rattle.linker.specs.Meanings.{lists_in}
 use Rattle.linker.specs.Rounds.{Lowered}
 use Rattle.linker.specs.Links.{WritesTo}
@@ -15,6 +15,6 @@ returns c =
     let n = tables_count c.args.tables in
     let low : Lowered ls (length ls) c.reduce.new.holder c.reduce.new.keep c.reduce.new.first c.reduce.new.second =
     subst (λ d. Lowered ls d c.reduce.new.holder c.reduce.new.keep c.reduce.new.first c.reduce.new.second) (sym n) c.if-not-reduce.ensures in
-    linking_found ls c.requires.sound.legal c.reduce.new.holder c.reduce.new.keep c.reduce.new.first c.reduce.new.second c.write-links.new.out low
-    (omega (arith, n, c.requires.written, c.write-links.auto.out))
-    (subst (λ d. WritesTo d c.reduce.new.holder c.write-links.new.out) low.marked.doors c.write-links.ensures)
+    linking_found ls c.requires.sound.legal c.reduce.new.holder c.reduce.new.keep c.reduce.new.first c.reduce.new.second c.write_links.new.out low
+    (omega (arith, n, c.requires.written, c.write_links.auto.out))
+    (subst (λ d. WritesTo d c.reduce.new.holder c.write_links.new.out) low.marked.doors c.write_links.ensures)

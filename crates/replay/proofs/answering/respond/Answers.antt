@@ -14,12 +14,12 @@ returns-in-Favour c = as_said _ _ _ _ _ _ _ _ _ c.in-Favour.is c.answer-in-Favou
 
 pub returns-in-OneWay : goal.returns-in-OneWay
 returns-in-OneWay c =
-    IfOk-weaker c.one-way.result _ _
-    (λ a w. as_said _ _ _ _ _ _ _ _ _ c.in-OneWay.is refl refl (keeps_one_way _ _ c.in-OneWay.sides c.in-OneWay.output _ _ c.in-OneWay.memory a c.as-slice.ensures.value c.as-slice-in-OneWay.ensures.value w))
-    c.one-way.ensures
+    IfOk-weaker c.one_way.result _ _
+    (λ a w. as_said _ _ _ _ _ _ _ _ _ c.in-OneWay.is refl refl (keeps_one_way _ _ c.in-OneWay.sides c.in-OneWay.output _ _ c.in-OneWay.memory a c.as_slice.ensures.value c.as_slice-in-OneWay.ensures.value w))
+    c.one_way.ensures
 
 pub returns-in-Link : goal.returns-in-Link
 returns-in-Link c =
-    IfOk-weaker c.two-way.result _ _
-    (λ a w. as_said _ _ _ _ _ _ _ _ _ c.in-Link.is refl refl (keeps_link _ _ c.in-Link.output _ c.in-Link.memory a c.as-slice-in-Link.ensures.value w))
-    c.two-way.ensures
+    IfOk-weaker c.two_way.result _ _
+    (λ a w. as_said _ _ _ _ _ _ _ _ _ c.in-Link.is refl refl (keeps_link _ _ c.in-Link.output _ c.in-Link.memory a c.as_slice-in-Link.ensures.value w))
+    c.two_way.ensures

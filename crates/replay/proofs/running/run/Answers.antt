@@ -9,10 +9,10 @@ loop-call-init c = led_none _ _ c.args.calls.now _ c.new-answers.ensures.items
 
 pub loop-call-preserved : goal.loop-call-preserved
 loop-call-preserved c =
-    led_more _ _ _ _ _ _ c.args.calls.now _ _ c.loop-call.call-index c.call-item.result c.in-ok-answer.answer
+    led_more _ _ _ _ _ _ c.args.calls.now _ _ c.loop-call.call-index c.call-item.result c.in_ok-answer.answer
     (get_or_read c.args.calls.now c.loop-call.call-index c.call-item.result c.loop-call-test.true c.call-item.is (Claim 0))
-    c.in-ok-write-down.ensures
-    c.in-ok-answer.ensures
+    c.in_ok-write_down.ensures
+    c.in_ok-answer.ensures
     c.loop-call.invariant
 
 pub returns : goal.returns

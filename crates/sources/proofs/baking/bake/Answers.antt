@@ -1,4 +1,4 @@
-use Rattle.std.proofs.Common.{◌≡◌, ◌+◌, ◌-◌, ◌*◌, ◌≤◌, length, take, sym, ap, ◌∙◌, arith}
+use Rattle.std.proofs.Common.{◌≡◌, ◌+◌, ◌-◌, ◌*◌, ◌≤◌, length, take, ap, ◌∙◌, arith}
 use borrow.Rule.Slice.PartMut.{same_len_mid}
 use native.Mathlib.Numerals.{unary_clauses}
 use Rattle.std.proofs.lemmas.List.{length-take, length-drop, length-take-le}
@@ -6,26 +6,26 @@ use Rattle.codec.proofs.BakeLoop.{written_fits, bake_none, bake_more, bake_all}
 use Rattle.matching.proofs.Rows.{lawful_facts}
 use Rattle.sources.proofs.baking.bake.Goals as goal
 
-pub overflow-add-result : goal.overflow-add-result
-overflow-add-result g c = omega (arith, c.count-count.ensures, (lawful_facts (g.S.Source.lists c.args.source.now) (g.met.S.Source.sound c.args.source.now)).few)
+pub overflow_add-result : goal.overflow_add-result
+overflow_add-result g c = omega (arith, c.count-count.ensures, (lawful_facts (g.S.Source.lists c.args.source.now) (g.met.S.Source.sound c.args.source.now)).few)
 
 pub loop-door-init : goal.loop-door-init
 loop-door-init g c =
     let room : 512 ≤ length c.args.out.now = omega arith in
     let fits : length (take 512 c.args.out.now) ≡ 512 = length-take-le 512 c.args.out.now room in (
-      same_len_mid 0 512 c.args.out.now c.write-header.new.block c.write-header.auto.block ∙ c.if-out-from.false ∙ ap (λ k. 512 * (k + 1)) (c.from.ensures ∙ c.count-count.ensures),
-      bake_none c.count-count.result (g.S.Source.lists c.args.source.now) c.write-header.new.block _ c.count-count.ensures
-          (written_fits _ _ _ c.write-header.result c.write-header.ensures fits),
+      same_len_mid 0 512 c.args.out.now c.write_header.new.block c.write_header.auto.block ∙ c.if-out-from.false ∙ ap (λ k. 512 * (k + 1)) (c.from.ensures ∙ c.count-count.ensures),
+      bake_none c.count-count.result (g.S.Source.lists c.args.source.now) c.write_header.new.block _ c.count-count.ensures
+          (written_fits _ _ _ c.write_header.result c.write_header.ensures fits),
     )
 
 pub loop-door-preserved : goal.loop-door-preserved
 loop-door-preserved g c =
-    let short : length (take (c.read-list-length.result - 0) c.read-list-length.new.out) ≤ 255 = simp length-take (omega (arith, c.read-list-length.ensures.fits)) in
+    let short : length (take (c.read_list-length.result - 0) c.read_list-length.new.out) ≤ 255 = simp length-take (omega (arith, c.read_list-length.ensures.fits)) in
     let room : 512 * (c.from-in-loop-door.result + 1) + 512 ≤ length c.loop-door.out = omega (arith, c.loop-door.invariant.0, c.from-in-loop-door.ensures, c.count-count.ensures) in (
-      same_len_mid _ _ c.loop-door.out c.write-row.new.block c.write-row.auto.block ∙ c.loop-door.invariant.0,
-      bake_more c.loop-door.door _ _ (g.S.Source.lists c.args.source.now) (take (c.read-list-length.result - 0) c.read-list-length.new.out) c.loop-door.out c.write-row.new.block
-          (ap (λ k. 512 * (k + 1)) c.from-in-loop-door.ensures) (omega arith) (omega (arith, c.count-count.ensures)) (simp unary_clauses c.read-list-length.ensures.read) (omega arith)
-          (written_fits _ _ _ c.write-row.result c.write-row.ensures (simp (length-take, length-drop) (omega arith), short)) c.loop-door.invariant.1,
+      same_len_mid _ _ c.loop-door.out c.write_row.new.block c.write_row.auto.block ∙ c.loop-door.invariant.0,
+      bake_more c.loop-door.door _ _ (g.S.Source.lists c.args.source.now) (take (c.read_list-length.result - 0) c.read_list-length.new.out) c.loop-door.out c.write_row.new.block
+          (ap (λ k. 512 * (k + 1)) c.from-in-loop-door.ensures) (omega arith) (omega (arith, c.count-count.ensures)) (simp unary_clauses c.read_list-length.ensures.read) (omega arith)
+          (written_fits _ _ _ c.write_row.result c.write_row.ensures (simp (length-take, length-drop) (omega arith), short)) c.loop-door.invariant.1,
     )
 
 pub returns : goal.returns

@@ -1,8 +1,8 @@
-use Rattle.std.proofs.Common.{take, sym, ap, ◌∙◌, subst, arith}
+use Rattle.std.proofs.Common.{take, sym, ap, ◌∙◌, arith}
 use Rattle.matching.specs.Lists.{row}
-use Rattle.sources.proofs.Asked.{Read, read_listed, read_unlisted, read_all, row_short, place_short}
+use Rattle.sources.proofs.Asked.{read_listed, read_unlisted, read_all, row_short, place_short}
 use Rattle.sources.proofs.reading.read_list.Goals as goal
-use Rattle.sources.proofs.reading.read_list.Goals.{in-Some, in-default}
+use Rattle.sources.proofs.reading.read_list.Goals.{in-Some, in_default}
 
 pub bounds-out-at : goal.bounds-out-at
 bounds-out-at g c =
@@ -16,7 +16,7 @@ loop-other-preserved g c =
     let law = g.met.S.Source.sound s in
     elim c.match-place.branch [
       | in-Some w ↦ rw w.out-is (read_listed ls c.args.door law c.loop-other.out c.loop-other.other c.loop-other.invariant w.in-Some.at (sym c.place.ensures ∙ w.in-Some.is))
-      | in-default w ↦ rw w.out-is (read_unlisted ls c.args.door law c.loop-other.out c.loop-other.other c.loop-other.invariant (sym c.place.ensures ∙ w.in-default.is))
+      | in_default w ↦ rw w.out-is (read_unlisted ls c.args.door law c.loop-other.out c.loop-other.other c.loop-other.invariant (sym c.place.ensures ∙ w.in_default.is))
     ]
 
 pub returns : goal.returns

@@ -7,5 +7,5 @@ pub loop-block-preserved : goal.loop-block-preserved
 loop-block-preserved c =
     let file = c.args.file.now in
     let block = c.loop-block.block in
-    c.in-ok-push-str.ensures.bytes ∙ ap (λ l. l ++ c.as-str.result.now) c.loop-block.invariant
-    ∙ ap (λ l. check_lines file block ++ l) (c.as-str.ensures.value ∙ c.in-ok-check-line.ensures) ∙ checks_more file block
+    c.in_ok-push_str.ensures.bytes ∙ ap (λ l. l ++ c.as_str.result.now) c.loop-block.invariant
+    ∙ ap (λ l. check_lines file block ++ l) (c.as_str.ensures.value ∙ c.in_ok-check_line.ensures) ∙ checks_more file block

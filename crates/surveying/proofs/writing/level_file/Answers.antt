@@ -4,6 +4,6 @@ use Rattle.surveying.proofs.writing.level_file.Goals as goal
 
 pub returns : goal.returns
 returns g c =
-    baked_whole (g.S.Source.lists c.args.source.now) c.as-mut-slice.result.now c.bake.new.out (drop (length c.bake.new.out) c.in-ok-file.file.items) c.in-ok-file.file.len c.bake.result c.bake.ensures
-    (omega (arith, c.as-mut-slice.ensures.len, c.in-ok-file.ensures.len, c.count.ensures, c.from-blocks.ensures))
-    (omega (arith, c.as-mut-slice.ensures.len, c.bake.auto.out))
+    baked_whole (g.S.Source.lists c.args.source.now) c.as_mut_slice.result.now c.bake.new.out (drop (length c.bake.new.out) c.in_ok-file.file.items) c.in_ok-file.file.len c.bake.result c.bake.ensures
+    (omega (arith, c.as_mut_slice.ensures.len, c.in_ok-file.ensures.len, c.count.ensures, c.from-blocks.ensures))
+    (omega (arith, c.as_mut_slice.ensures.len, c.bake.auto.out))

@@ -4,5 +4,5 @@ use Rattle.journaling.proofs.ledger.Ledger.new.Goals as goal
 
 pub returns : goal.returns
 returns c =
-    kept_none c.args.doors _ c.new.ensures.items (c.in-ok-vec.ensures.items-if-clones-equal (λ y e. e) ∙ ap (λ n. replicate n true) c.from-n.ensures)
-    (c.in-ok-vec-2.ensures.items-if-clones-equal (λ y e. e) ∙ ap (λ n. replicate n false) c.from-n.ensures)
+    kept_none c.args.doors _ c.new.ensures.items (c.in_ok-vec.ensures.items_if_clones_equal (λ y e. e) ∙ ap (λ n. replicate n true) c.from-n.ensures)
+    (c.in_ok-vec-2.ensures.items_if_clones_equal (λ y e. e) ∙ ap (λ n. replicate n false) c.from-n.ensures)

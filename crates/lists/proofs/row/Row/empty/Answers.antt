@@ -2,5 +2,5 @@ use Rattle.std.proofs.Common.{[], refl, arith}
 use Rattle.lists.proofs.Filling.{row_none}
 use Rattle.lists.proofs.row.Row.empty.Goals as goal
 
-pub invariant-of-result : goal.invariant-of-result
-invariant-of-result c = (omega arith, (refl, (refl, (row_none [], tt))))
+pub invariant_of-result : goal.invariant_of-result
+invariant_of-result c = record { short = omega arith; whole = refl; all = refl; right = row_none [] }

@@ -10,8 +10,8 @@ loop-i-init c = gathered_none c.args.other c.args.self.now.items c.args.out.now 
 pub bounds-out-end : goal.bounds-out-end
 bounds-out-end c = omega (arith, c.loop-i.invariant.near)
 
-pub overflow-add-end : goal.overflow-add-end
-overflow-add-end c = omega (arith, c.loop-i.invariant.near)
+pub overflow_add-end : goal.overflow_add-end
+overflow_add-end c = omega (arith, c.loop-i.invariant.near)
 
 pub loop-i-preserved : goal.loop-i-preserved
 loop-i-preserved c =

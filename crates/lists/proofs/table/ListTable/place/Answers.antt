@@ -1,4 +1,4 @@
-use Rattle.std.proofs.Common.{length, sym, ap, ◌∙◌, arith}
+use Rattle.std.proofs.Common.{sym, ap, ◌∙◌, arith}
 use Rattle.matching.specs.Lists.{place}
 use Rattle.lists.specs.Rows.{row_list}
 use Rattle.lists.specs.Tables.{lists}

@@ -14,8 +14,8 @@ returns-then-door-self c =
     let t = c.args.self.now in
     sym (set_past (lists t) c.args.door (headed c.args.other (row (lists t) c.args.door)) (omega (arith, rows_length row_list t.rows t.count (omega arith))))
 
-pub returns-then-is-none : goal.returns-then-is-none
-returns-then-is-none c = not_headed (lists c.args.self.now) c.args.door c.args.other c.place.result c.place.ensures c.if-is-none.ensures
+pub returns-then-is_none : goal.returns-then-is_none
+returns-then-is_none c = not_headed (lists c.args.self.now) c.args.door c.args.other c.place.result c.place.ensures c.if-is_none.ensures
 
 pub returns : goal.returns
 returns c =
@@ -24,4 +24,4 @@ returns c =
     let is : new ≡ c.args.other ∷ without c.args.other (row (lists t) c.args.door) =
     simp unary_clauses c.gather-end.ensures.read
     ∙ ap (λ l. c.args.other ∷ without c.args.other l) (sym (rows_at row_list t.rows t.count (omega arith) c.args.door c.index-self-door.result c.if-door-self.false)) in
-    put_headed (lists t) (lists c.put.new.self) c.args.door c.args.other new c.place.result c.put.result t.sound c.place.ensures c.if-is-none.ensures is c.put.ensures.answer c.put.ensures.after
+    put_headed (lists t) (lists c.put.new.self) c.args.door c.args.other new c.place.result c.put.result t.sound c.place.ensures c.if-is_none.ensures is c.put.ensures.answer c.put.ensures.after

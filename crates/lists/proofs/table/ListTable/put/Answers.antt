@@ -1,4 +1,4 @@
-use Rattle.std.proofs.Common.{◌≡◌, true, false, ◌&&◌, ltb, map, length, take, set, sym, refl, ap, ◌∙◌, subst, arith}
+use Rattle.std.proofs.Common.{◌≡◌, true, false, ltb, length, set, sym, refl, ap, ◌∙◌, subst, arith}
 use Rattle.std.proofs.lemmas.List.{length-set}
 use Rattle.std.proofs.lemmas.Bool.{and_from, and_left, and_right, lt-ltb, le-ltb}
 use Rattle.matching.specs.Lists.{lawful, lawful_list}
@@ -16,23 +16,19 @@ returns-then-door-self c =
       after = refl;
     }
 
-pub invariant-of-self : goal.invariant-of-self
-invariant-of-self c =
+pub invariant_of-self : goal.invariant_of-self
+invariant_of-self c =
     let t = c.args.self.now in
     let n = rows_length row_list t.rows t.count (omega arith) in
     let d = c.args.door in
     let new : lawful_list (length (lists t)) d (row_list c.in-Some.row) ≡ true =
-    subst (λ l. lawful_list (length (lists t)) d l ≡ true) (sym c.in-Some.ensures.1) (subst (λ m. lawful_list m d c.args.list.now ≡ true) (sym n) c.in-Some.ensures.0) in (
-      t.few,
-      (
-        length-set t.rows d c.in-Some.row ∙ t.whole,
-        (
-          subst (λ ls. lawful ls ≡ true) (sym (rows_set row_list t.rows t.count (omega arith) d c.in-Some.row c.if-door-self.false))
-              (lawful_set (lists t) d (row_list c.in-Some.row) t.sound (omega (arith, n, c.if-door-self.false)) new),
-          tt,
-        ),
-      ),
-    )
+    subst (λ l. lawful_list (length (lists t)) d l ≡ true) (sym c.in-Some.ensures.1) (subst (λ m. lawful_list m d c.args.list.now ≡ true) (sym n) c.in-Some.ensures.0) in
+    record {
+      few = t.few;
+      whole = length-set t.rows d c.in-Some.row ∙ t.whole;
+      sound = subst (λ ls. lawful ls ≡ true) (sym (rows_set row_list t.rows t.count (omega arith) d c.in-Some.row c.if-door-self.false))
+          (lawful_set (lists t) d (row_list c.in-Some.row) t.sound (omega (arith, n, c.if-door-self.false)) new);
+    }
 
 pub returns-in-Some : goal.returns-in-Some
 returns-in-Some c =
