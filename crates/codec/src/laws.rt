@@ -3,7 +3,7 @@ ghost use Rattle.codec.specs.Laws.{FaultlessAreFiles, FilesAreFaultless, OneFirs
 
 // Exactly the files of lawful lists have no first fault.
 pub fn faultless_are_files() -> u8
-    ensures { (FaultlessAreFiles) × (FilesAreFaultless) }
+    ensures { FaultlessAreFiles × FilesAreFaultless }
 {
     0
 }

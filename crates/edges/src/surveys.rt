@@ -63,7 +63,7 @@ fn tiles_are_rounded_down(rt: HostRuntime) {
             east: 0,
             north: 0,
             kind: 4,
-        }],)
+        }])
         .count(),
         0
     );

@@ -10,7 +10,7 @@ ghost use Rattle.matching.specs.Lists.{lawful, Lawful, lawful_list};
 
 // The test `lawful` says exactly that every list holds different doors of the level, never its owner.
 pub fn lawful_says_so() -> u8
-    ensures { (((ls : List (List ℕ)) → lawful ls ≡ true → Lawful ls)) × (((ls : List (List ℕ)) → Lawful ls → lawful ls ≡ true)) }
+    ensures { ((ls : List (List ℕ)) → lawful ls ≡ true → Lawful ls) × ((ls : List (List ℕ)) → Lawful ls → lawful ls ≡ true) }
 {
     0
 }

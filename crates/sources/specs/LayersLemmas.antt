@@ -1,5 +1,5 @@
 -- The lists of a reach: their rows, places and lawfulness.
-use Rattle.std.specs.Prelude.{◌≡◌, ℕ, zero, suc, ◌<◌, ◌≤◌, true, List, [], length, take, Some, None, Option, slice_index, slice_index_or, refl}
+use Rattle.std.specs.Prelude.{◌≡◌, ℕ, zero, suc, ◌<◌, ◌≤◌, true, List, [], length, take, Some, None, Option, slice_index, refl}
 use Rattle.std.proofs.Common.{⊎_elim, sym, ap, subst, ◌∙◌, arith}
 use Rattle.std.proofs.lemmas.List.{length-map, length-take, get_or-take, get_or-map, get_or_past}
 use Rattle.std.proofs.lemmas.Bool.{cases_lt}
@@ -46,7 +46,7 @@ place_far k ls x y h =
 take_lawful : (n d k : ℕ) (l : List ℕ) → LawfulList n d l → LawfulList n d (take k l)
 take_lawful n d k l f =
     let inside : (i : ℕ) → i < length (take k l) → (i < k) × (i < length l) = λ i b. (omega (arith, length-take k l), omega (arith, length-take k l)) in
-    let same : (i : ℕ) → i < length (take k l) → slice_index (take k l) i ≡ slice_index_or l i 0 = λ i b. get_or-take k l i 0 (inside i b).0 in
+    let same : (i : ℕ) → i < length (take k l) → slice_index (take k l) i ≡ slice_index l i = λ i b. get_or-take k l i 0 (inside i b).0 in
     record {
       known = λ i b. omega (arith, same i b, f.known i (inside i b).1);
       others = λ i b e. f.others i (inside i b).1 (sym (same i b) ∙ e);

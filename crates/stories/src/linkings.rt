@@ -113,7 +113,7 @@ fn all_doors_are_linked(rt: HostRuntime) {
         linked(&Reach {
             below: six_doors(),
             reach: 1,
-        },),
+        }),
         (0, ONE_PAIR)
     );
     let mut ring = ListTable::empty(6);
