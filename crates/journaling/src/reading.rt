@@ -85,7 +85,7 @@ fn link_call(heap: Global, doors: u8) -> Result<Option<Call>, AllocError>
 
 // The edit that a line says: its letter, one space and the rest.
 fn read_edit(letter: u8, rest: &[u8]) -> Option<Call>
-    ensures { (n : ℕ) → (letter ≢ 111) → SaysCall n (letter ∷ 32 ∷ rest.now) result }
+    ensures { (n : ℕ) → letter ≢ 111 → SaysCall n (letter ∷ 32 ∷ rest.now) result }
 {
     match letter {
         b'c' => Some(Call::Claim(text::byte(rest)?)),

@@ -57,5 +57,5 @@ Goes ls holder holder' None = Unit {0}
 pub record Proposed (ls : List (List ℕ)) (x : ℕ) (holder holder' keep' first' : List ℕ) (next : Option ℕ) : Type 0 where
   pub marked : Marked ls holder' keep' first'
   pub under : Underway ls (ranks ls) (lasts holder')
-  pub settles : (z : ℕ) → (z ≡ x) ⊎ Settles ls holder z → (next ≢ Some z) → Settles ls holder' z
+  pub settles : (z : ℕ) → (z ≡ x) ⊎ Settles ls holder z → next ≢ Some z → Settles ls holder' z
   pub goes : Goes ls holder holder' next

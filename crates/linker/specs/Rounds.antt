@@ -37,7 +37,7 @@ pub record Stepped (ls : List (List ℕ)) (holder : List ℕ) (x : ℕ) (seconds
   pub onward : next ≡ lasts holder y
   pub placed : at ≡ ranks ls x y
   pub learnt : slice_index seconds' x ≡ at
-  pub others : (z : ℕ) → (z ≢ x) → slice_index seconds' z ≡ slice_index seconds z
+  pub others : (z : ℕ) → z ≢ x → slice_index seconds' z ≡ slice_index seconds z
   pub ahead : Ahead ls holder seconds'
 
 -- `len` steps of the walk from d in the table T led to x: the doors passed are in the sequence, `seen` has when each was passed, and

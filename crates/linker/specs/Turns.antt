@@ -32,6 +32,6 @@ pub record Going (ls : List (List ℕ)) (sides : List ℕ) (d x k : ℕ) (next h
   pub doors : d ≤ length ls
   pub short : (w : ℕ) → slice_index next w ≤ length (row ls w)
   pub places : (w : ℕ) → slice_index asked w ≡ asks_to ls sides w (slice_index next w)
-  pub through : (w : ℕ) → w < d → (w ≢ x) → exit sides w ≡ true → Through ls sides (state_of asked held) w
+  pub through : (w : ℕ) → w < d → w ≢ x → exit sides w ≡ true → Through ls sides (state_of asked held) w
   pub later : (w : ℕ) → d ≤ w → slice_index asked w ≡ 0
   pub asker : (x ≡ unlinked) ⊎ ((x < d) × (exit sides x ≡ true) × Free (state_of asked held) x)

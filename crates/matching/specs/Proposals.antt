@@ -24,7 +24,7 @@ proposals ls sides m = sum_by (λ x. cond (exit sides x) (asks_of ls sides x (pa
 -- no exit does better in any stable linking: linked there, it is linked here, and does not prefer its partner there
 abbrev pub BestForExits : List (List ℕ) → List ℕ → List ℕ → Type 0
 BestForExits ls sides m =
-    (m' : List ℕ) → Linking ls (counts_one_way ls sides) m' → Stable ls (counts_one_way ls sides) m' → (x : ℕ) → exit sides x ≡ true → (partner m' x ≢ unlinked) →
+    (m' : List ℕ) → Linking ls (counts_one_way ls sides) m' → Stable ls (counts_one_way ls sides) m' → (x : ℕ) → exit sides x ≡ true → partner m' x ≢ unlinked →
     (partner m x ≢ unlinked) × (Prefers ls x (partner m' x) (partner m x) → ⊥)
 
 -- how many places of its trimmed list each door has asked, and the exit that each door holds, or `unlinked`
