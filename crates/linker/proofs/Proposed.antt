@@ -257,13 +257,13 @@ module _ (ls : List (List ℕ)) (sides : List ℕ) (f : Lawful ls) (d x c k : �
 -- A proposal as the program makes it: y is the door at place k of x's list, z the exit that it holds.
 module _ (t : Tables) (o : Sound t) (sides : List ℕ) (d x c k : ℕ) (next held next' : List ℕ) (y z : ℕ) (g : Going (lists_in t) sides d x c next held) (n : NextPlace (lists_in t) sides x (get_or next x 0) k)
     (h : k < length (row (lists_in t) x)) (write : next' ≡ set next x (k + 1)) (at : y ≡ get_or t.lists.now (x * t.count + k) 0) (whom : z ≡ get_or held y unlinked) where
-  the-door : get_or (row (lists_in t) x) k 0 ≡ y
-  the-door = sym (at ∙ told_door t o x k h)
+  the_door : get_or (row (lists_in t) x) k 0 ≡ y
+  the_door = sym (at ∙ told_door t o x k h)
 
   doors : (x < t.count) × (y < t.count)
   doors =
       subst (λ m. (x < m) × (y < m)) (tabled_length t.count t.lists.now t.sizes.now)
-      (listed_doors (lists_in t) x y o.legal (subst (λ v. listed (lists_in t) x v ≡ true) the-door (row_listed (lists_in t) x k h)))
+      (listed_doors (lists_in t) x y o.legal (subst (λ v. listed (lists_in t) x v ≡ true) the_door (row_listed (lists_in t) x k h)))
 
   someone : x ≡ unlinked → ⊥
   someone i = omega (arith, doors.0, tabled_length t.count t.lists.now t.sizes.now, o.legal.few)
@@ -280,12 +280,12 @@ module _ (t : Tables) (o : Sound t) (sides : List ℕ) (d x c k : ℕ) (next hel
   pub ask_refused : (z ≡ unlinked → ⊥) → get_or t.places.now (y * t.count + z) 0 < get_or t.places.now (y * t.count + x) 0 → Going (lists_in t) sides d x (c + 1) next' held
   ask_refused m less =
       subst (λ v. Going (lists_in t) sides d x (c + 1) v held) (sym write)
-      (going_refused (lists_in t) sides o.legal d x c k next held g someone n h y the-door z whom m (omega (arith, mark_asker, mark_held m)))
+      (going_refused (lists_in t) sides o.legal d x c k next held g someone n h y the_door z whom m (omega (arith, mark_asker, mark_held m)))
 
   pub ask_taken : (z ≡ unlinked) ⊎ (get_or t.places.now (y * t.count + x) 0 ≤ get_or t.places.now (y * t.count + z) 0) → Going (lists_in t) sides d z (c + 1) next' (set held y x)
   ask_taken less =
       subst (λ v. Going (lists_in t) sides d z (c + 1) v (set held y x)) (sym write)
-      (going_taken (lists_in t) sides o.legal d x c k next held g someone n h y the-door z whom
+      (going_taken (lists_in t) sides o.legal d x c k next held g someone n h y the_door z whom
       (⊎_elim (λ m. inl m) (λ m. inr (omega (arith, mark_asker, mark_held m, ⊎_elim (λ i. absurd (m i)) (λ i. i) less))) (cases_eq z unlinked)))
 
 -- at most 96 doors ask at most 96 times each
