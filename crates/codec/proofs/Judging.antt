@@ -1,6 +1,6 @@
 -- The file check, step by step: where it stops, the first fault is found.
-use Rattle.std.proofs.Common.{◌≡◌, ℕ, zero, suc, ◌+◌, ◌*◌, ◌<◌, ◌≤◌, List, length, None, Option, sym, refl, ap, ◌∙◌, subst, ⊎_elim, arith}
-use Rattle.std.proofs.lemmas.Bool.{cases_lt, lt-ltb, le-ltb, ne_eqb, eq-eqb, cases_order}
+use Rattle.std.proofs.Common.{◌≡◌, ℕ, zero, suc, ◌+◌, ◌*◌, ◌<◌, ◌≤◌, List, length, None, Option, sym, refl, ◌∙◌, subst, ⊎_elim, arith}
+use Rattle.std.proofs.lemmas.Bool.{cases_lt, lt-ltb, le-ltb, ne_eqb, eq-eqb}
 use Rattle.faults.specs.declared.Refusal.TheVariants.{WrongSize}
 use Rattle.faults.specs.declared.Place.TheVariants.{At}
 use Rattle.faults.specs.declared.Fault.{Fault}
@@ -9,18 +9,6 @@ use Rattle.codec.specs.Findings.{in_file, header_fault, row_fault, block_finding
 use Rattle.codec.specs.Verdicts.{RefusedFor}
 use Rattle.codec.proofs.Questions.{question_below}
 use Rattle.codec.proofs.Accepted.{baking_clean}
-
--- a file has at most one first fault
-first_one : (ask : ℕ → Option Fault) (f g : Fault) → First ask f → First ask g → f ≡ g
-first_one ask f g a b =
-    ⊎_elim (λ e. grind (arith, a.found, b.found, ap ask e))
-    (⊎_elim (λ l. absurd (grind (arith, a.found, b.before a.question l))) (λ l. absurd (grind (arith, b.found, a.before b.question l)))) (cases_order a.question b.question)
-
-pub fault_one : (bytes : List ℕ) (f g : Fault) → FirstFault bytes f → FirstFault bytes g → f ≡ g
-fault_one bytes f g a b =
-    ⊎_elim (λ e. first_one (finding bytes b.block) f g (subst (λ k. First (finding bytes k) f) e a.first) b.first)
-    (⊎_elim (λ l. absurd (grind (arith, a.first.found, b.before a.block l a.first.question))) (λ l. absurd (grind (arith, b.first.found, a.before b.block l b.first.question))))
-    (cases_order a.block b.block)
 
 -- bytes with a fault are no baking of lawful lists
 pub refused : (bytes : List ℕ) (f : Fault) → FirstFault bytes f → RefusedFor f bytes

@@ -1,5 +1,5 @@
+pub mod Blocks
 pub mod Weights
-pub mod Bytes
 pub mod Listed
 pub mod Questions
 pub mod Sealed

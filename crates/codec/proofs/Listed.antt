@@ -1,7 +1,9 @@
 -- A door is on a list exactly where it has a place there.
-use Rattle.std.proofs.Common.{ℕ, List, is_some, Some, None, Decides, Option, refl, ◌∙◌, arith}
-use Rattle.std.specs.List.{ContainsAt as Has}
+use Rattle.std.proofs.Common.{◌≡◌, ℕ, Bool, eqb, List, is_some, Some, None, Decides, Option, refl, ◌∙◌, arith}
+use Rattle.std.specs.List.{IsAnyAnswer, ContainsAt as Has}
+use Rattle.std.proofs.lemmas.Bool.Decides.{same_from_decides, Decides-eqb}
 use Rattle.std.proofs.lemmas.List.{get_or_default}
+use Rattle.std.proofs.lemmas.List.Elements.{contains_decides}
 use Rattle.matching.specs.Lists.{place, PlaceOf}
 use Rattle.matching.proofs.Rows.{place_view}
 
@@ -11,3 +13,7 @@ has_from_view l y None v = (λ e. absurd (grind arith), λ h. absurd (v h.0 h.1 
 
 pub listed_decides : (l : List ℕ) (y : ℕ) → Decides (is_some (place l y)) (Has l y)
 listed_decides l y = has_from_view l y (place l y) (place_view l y)
+
+-- what a search answers
+pub listed_same : (l : List ℕ) (y : ℕ) (b : Bool) → IsAnyAnswer (λ z t. eqb z y ≡ t) l b → b ≡ is_some (place l y)
+listed_same l y b h = same_from_decides b (is_some (place l y)) (contains_decides eqb Decides-eqb l y b h) (listed_decides l y)

@@ -29,10 +29,10 @@ end_put block s t h e =
     let none : post_of 510 2 block ≡ [] = nil_from_length (post_of 510 2 block) (omega (arith, length-drop 2 (drop 510 block), length-drop 510 block)) in
     ap (λ u. take 510 block ++ (s ++ u)) none ∙ ap (λ u. take 510 block ++ u) (append-nil s ∙ e)
 
--- a body of the right bytes, with its check, is a sealed block
-pub sealed_body : (bs block : List ℕ) → length bs ≤ 510 → length block ≡ 512 → take 510 block ≡ padded bs → take 510 block ++ low_high (block_check block) ≡ sealed bs
+-- a body of the right bytes, in two parts, with its check is a sealed block
+pub sealed_body : (h l block : List ℕ) → length h + length l ≤ 510 → length block ≡ 512 → take 510 block ≡ padded (h ++ l) → take 510 block ++ low_high (block_check block) ≡ sealed (h ++ l)
 unfolding sealed
-sealed_body bs block few h e =
-    let check : block_check block ≡ block_check (padded bs) =
-    ap block_check (sym (take-append-drop 510 block)) ∙ ap (λ s. block_check (s ++ drop 510 block)) e ∙ check_of_body (padded bs) (drop 510 block) (length_padded bs few) in
-    ap (λ s. s ++ low_high (block_check block)) e ∙ ap (λ n. padded bs ++ low_high n) check
+sealed_body h l block few long e =
+    let check : block_check block ≡ block_check (padded (h ++ l)) =
+    ap block_check (sym (take-append-drop 510 block)) ∙ ap (λ s. block_check (s ++ drop 510 block)) e ∙ check_of_body (padded (h ++ l)) (drop 510 block) (length_padded (h ++ l) (omega (arith, length-append h l))) in
+    ap (λ s. s ++ low_high (block_check block)) e ∙ ap (λ n. padded (h ++ l) ++ low_high n) check

@@ -1,5 +1,6 @@
--- The verdict on a whole file.
-use Rattle.std.specs.Prelude.{◌≡◌, ℕ, true, List, length, Ok, Err, Result, ◌≢◌}
+-- The verdict on a block, and on a whole file.
+use Rattle.std.specs.Prelude.{◌≡◌, ℕ, true, List, length, Ok, Err, Option, Result, ◌≢◌, slice_index}
+use Rattle.faults.specs.declared.Refusal.{Refusal}
 use Rattle.faults.specs.declared.Refusal.TheVariants.{WrongSize}
 use Rattle.faults.specs.declared.Place.TheVariants.{At}
 use Rattle.faults.specs.declared.Fault.{Fault}
@@ -7,7 +8,17 @@ use Rattle.lists.specs.declared.table.ListTable.{ListTable}
 use Rattle.lists.specs.Tables.{lists}
 use Rattle.matching.specs.Lists.{lawful}
 use Rattle.codec.specs.Blocks.{baking}
-use Rattle.codec.specs.Findings.{FirstFault, in_file}
+use Rattle.codec.specs.Findings.{header_fault, block_finding, Clean, First, FirstFault, in_file}
+
+-- the verdict on block b, whose byte i is wrong as `wrong i` says: nothing found, or the first finding
+abbrev pub Verdict : ℕ → (ℕ → Option Refusal) → List ℕ → Result (Unit {0}) Fault → Type 0
+Verdict b wrong block (Ok _) = Clean (block_finding b block wrong)
+Verdict b wrong block (Err f) = First (block_finding b block wrong) f
+
+-- the verdict on the header: with nothing found, the number of doors
+abbrev pub HeaderVerdict : List ℕ → Result ℕ Fault → Type 0
+HeaderVerdict block (Ok n) = Clean (block_finding 0 block (header_fault block)) × (n ≡ slice_index block 5)
+HeaderVerdict block (Err f) = First (block_finding 0 block (header_fault block)) f
 
 -- the bytes are the file of lawful lists of n doors
 abbrev pub FileOf : ℕ → List ℕ → Type 0

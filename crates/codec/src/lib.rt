@@ -1,4 +1,4 @@
-// The level file: its check, reading it, and writing its blocks.
+//! The level file: its check, reading it, and writing its blocks.
 
 #![tactic(auto)]
 
@@ -8,7 +8,7 @@ mod table;
 mod verdict;
 mod write;
 
-pub use block::block_check;
+pub use block::{BLOCK, block_check};
 pub use laws::{baking_is_injective, faultless_are_files, one_first_fault};
 pub use table::read;
 pub use verdict::check;

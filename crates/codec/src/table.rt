@@ -1,15 +1,15 @@
-// Reading the lists of a level file.
-ghost use Rattle.std.specs.Prelude.{◌≡◌, length};
+//! Reading the lists of a level file.
+ghost use Rattle.std.specs.Prelude.{◌≡◌};
 ghost use Rattle.lists.specs.Tables.{lists};
 ghost use Rattle.codec.specs.Blocks.{baking, list_in};
 ghost use Rattle.codec.specs.Verdicts.{FileOf, Opened};
 
-use crate::block::{LIST_AT, block_of};
+use crate::block::{Block, LIST_AT, blocks};
 use crate::verdict::check;
 use faults::Fault;
 use lists::ListTable;
 
-// Checks a whole file and reads its lists.
+/// Checks a whole file and reads its lists. Refused with the file's first fault.
 pub fn read(bytes: &[u8]) -> Result<ListTable, Fault>
     ensures { Opened bytes.now result }
 {
@@ -23,17 +23,17 @@ fn table_of(bytes: &[u8], n: u8) -> ListTable
     ensures { bytes.now ≡ baking (lists result) }
 {
     let mut table = ListTable::empty(n);
-    for door in 0..n {
-        table.put(door, list_in(block_of(bytes, door + 1)));
+    for (i, row) in blocks(bytes)[1..].iter().enumerate() {
+        table.put(i as u8, list_in(row));
     }
     table
 }
 
 // The list in the block of a door.
-fn list_in(block: &[u8]) -> &[u8]
-    requires { length block.now ≡ 512 }
-    ensures { result.now ≡ list_in block.now }
+#[tactic(auto, unfolding(crate::specs::Blocks::list_in))]
+fn list_in(row: &Block) -> &[u8]
+    ensures { result.now ≡ list_in row.now }
 {
-    let end = LIST_AT + usize::from(block[2]);
-    &block[LIST_AT..end]
+    let end = LIST_AT + usize::from(row[2]);
+    &row[LIST_AT..end]
 }

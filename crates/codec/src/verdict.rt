@@ -1,160 +1,136 @@
-// The check of a level file: its first fault, or the number of its doors.
-ghost use Rattle.std.specs.Prelude.{◌≡◌, ◌<◌, length, is_some, slice_index};
-ghost use Rattle.faults.specs.declared.Place.TheVariants.{Byte};
-ghost use Rattle.matching.specs.Lists.{place};
-ghost use Rattle.codec.specs.Blocks.{opening};
-ghost use Rattle.codec.specs.Findings.{checked, unless, header_fault, may_follow, row_fault, in_file};
-ghost use Rattle.codec.specs.Kinds.{refusal_at, Verdict, HeaderVerdict};
-ghost use Rattle.codec.specs.Verdicts.{Judged};
+//! The check of a level file: its first fault, or the number of its doors.
+ghost use Rattle.std.specs.Prelude.{◌≡◌, ℕ, ◌<◌, Option};
+ghost use Rattle.faults.specs.declared.Refusal.{Refusal};
+ghost use Rattle.codec.specs.Findings.{checked, header_fault, may_follow, row_fault};
+ghost use Rattle.codec.specs.Verdicts.{Verdict, HeaderVerdict, Judged};
 
-use crate::block::{BLOCK, BODY, LIST_AT, OPENING, ROW_MARK, block_check, block_of, wrong_size};
+use crate::block::{
+    BLOCK, BODY, Block, LIST_AT, OPENING, ROW_MARK, block_check, blocks, wrong_size,
+};
 use faults::{Fault, Layer, Place, Refusal};
+use lists::MOST_DOORS;
 
 // The byte of the header with the number of doors.
 const DOORS_AT: usize = 5;
-// No level has more doors.
-const MAX_DOORS: u8 = 96;
 
-// Checks a whole file. The number of its doors, or its first fault.
+/// Checks a whole file. The number of its doors, or its first fault.
 pub fn check(bytes: &[u8]) -> Result<u8, Fault>
     ensures { Judged bytes.now result }
 {
-    if bytes.len() < BLOCK {
+    let [header, rows @ ..] = blocks(bytes) else {
+        return Err(wrong_size());
+    };
+    let doors = check_header(header)?;
+    if bytes.len() != BLOCK * (usize::from(doors) + 1) {
         return Err(wrong_size());
     }
-    let n = check_header(block_of(bytes, 0))?;
-    if bytes.len() != BLOCK * (usize::from(n) + 1) {
-        return Err(wrong_size());
+    for (i, block) in rows.iter().enumerate() {
+        let row = Row {
+            doors,
+            door: i as u8,
+        };
+        check_block(row.door + 1, block, |byte| row.refusal(block, byte))?;
     }
-    for door in 0..n {
-        check_block(
-            door + 1,
-            Kind::Row { doors: n, door },
-            block_of(bytes, door + 1),
-        )?;
-    }
-    Ok(n)
+    Ok(doors)
 }
 
 // Checks the header block, and reads the number of doors.
-fn check_header(block: &[u8]) -> Result<u8, Fault>
-    requires { length block.now ≡ 512 }
+fn check_header(block: &Block) -> Result<u8, Fault>
     ensures { HeaderVerdict block.now result }
 {
-    check_block(0, Kind::Header, block)?;
+    check_block(0, block, |i| header_refusal(block, i))?;
+    // stays: a rule of the project: the header is taken apart by a slice pattern with its fixed bytes, its count and the rest
     match block {
         [0x44, 0x4F, 0x4F, 0x52, 1, n, _rest @ ..] => Ok(*n),
         _ => unreachable(),
     }
 }
 
-// What a block should be: the header, or the block of a door among so many.
-#[derive(Clone, Copy)]
-enum Kind {
-    Header,
-    Row { doors: u8, door: u8 },
-}
-
-// Checks a block: first its check, then its bytes in order.
-fn check_block(number: u8, kind: Kind, block: &[u8]) -> Result<(), Fault>
-    requires { length block.now ≡ 512 }
-    ensures { Verdict number kind block.now result }
+// Checks a block: first its check, then its bytes in order, each by what is wrong with it.
+fn check_block<F: Fn(usize) -> Option<Refusal>>(
+    number: u8,
+    block: &Block,
+    wrong: F,
+) -> Result<(), Fault>
+    requires { (i : ℕ) → i < 510 → F.pre wrong i }
+    ensures { (ask : ℕ → Option Refusal) → ((i : ℕ) (r : Option Refusal) → F.post wrong i r → r ≡ ask i) → Verdict number ask block.now result }
 {
     if !is_sealed(block) {
-        return Err(at_byte(Refusal::BlockCheck, number, 510));
+        return Err(Layer::File.refuses(
+            Refusal::BlockCheck,
+            Place::Byte {
+                block: number,
+                byte: BODY as u16,
+            },
+        ));
     }
+    // stays: a loop, for `(0..BODY).find_map(..)` was tried, and its proof did not close
     for i in 0..BODY {
-        if let Some(refusal) = byte_refusal(kind, block, i) {
-            return Err(at_byte(refusal, number, i as u16));
+        if let Some(refusal) = wrong(i) {
+            return Err(Layer::File.refuses(
+                refusal,
+                Place::Byte {
+                    block: number,
+                    byte: i as u16,
+                },
+            ));
         }
     }
     Ok(())
 }
 
-// What is wrong with byte i of a block of this kind, if anything.
-fn byte_refusal(kind: Kind, block: &[u8], i: usize) -> Option<Refusal>
-    requires { (length block.now ≡ 512) × (i < 510) }
-    ensures { result ≡ refusal_at kind block.now i }
-{
-    match kind {
-        Kind::Header => header_refusal(block, i),
-        Kind::Row { doors, door } => row_refusal(doors, door, block, i),
-    }
-}
-
-// A fault at a byte of a block of the file.
-fn at_byte(refusal: Refusal, block: u8, byte: u16) -> Fault
-    ensures { result ≡ in_file refusal (Byte block byte) }
-{
-    Fault {
-        refusal,
-        layer: Layer::File,
-        place: Place::Byte { block, byte },
-    }
-}
-
 // Whether a block's last two bytes are its check.
-fn is_sealed(block: &[u8]) -> bool
-    requires { length block.now ≡ 512 }
+#[tactic(auto, unfolding(crate::specs::Findings::checked))]
+fn is_sealed(block: &Block) -> bool
     ensures { result ≡ checked block.now }
 {
-    let [low, high] = block_check(block).to_le_bytes();
-    block[510] == low && block[511] == high
+    block[BODY..] == block_check(block).to_le_bytes()[..]
 }
 
 // What is wrong with byte i of a header block, if anything.
-fn header_refusal(block: &[u8], i: usize) -> Option<Refusal>
-    requires { (length block.now ≡ 512) × (i < 510) }
+#[tactic(auto, unfolding(crate::specs::Findings::header_fault))]
+fn header_refusal(block: &Block, i: usize) -> Option<Refusal>
+    requires { i < 510 }
     ensures { result ≡ header_fault block.now i }
 {
     if i == DOORS_AT {
-        return refuse_unless(block[i] <= MAX_DOORS, Refusal::TooManyDoors);
+        return (block[i] > MOST_DOORS).then_some(Refusal::TooManyDoors);
     }
-    refuse_unless(block[i] == opening_byte(i), Refusal::FixedByte)
+    let fixed = OPENING.get(i).copied().unwrap_or(0);
+    (block[i] != fixed).then_some(Refusal::FixedByte)
 }
 
-// Byte i of the opening, with zeros after it.
-fn opening_byte(i: usize) -> u8
-    ensures { result ≡ slice_index opening i }
-{
-    OPENING.get(i).copied().unwrap_or(0)
+// The row of a door in a file of so many doors.
+#[derive(Clone, Copy)]
+struct Row {
+    doors: u8,
+    door: u8,
 }
 
-// What is wrong with byte i of the block of a door, if anything.
-fn row_refusal(doors: u8, door: u8, block: &[u8], i: usize) -> Option<Refusal>
-    requires { (length block.now ≡ 512) × (i < 510) }
-    ensures { result ≡ row_fault doors door block.now i }
-{
-    let byte = block[i];
-    match i {
-        0 => refuse_unless(byte == ROW_MARK, Refusal::FixedByte),
-        1 => refuse_unless(byte == door, Refusal::FixedByte),
-        2 => refuse_unless(byte < doors, Refusal::BadList),
-        _ if i < LIST_AT + usize::from(block[2]) => refuse_unless(
-            may_follow(doors, door, &block[LIST_AT..i], byte),
-            Refusal::BadList,
-        ),
-        _ => refuse_unless(byte == 0, Refusal::FixedByte),
+impl Row {
+    // What is wrong with byte i of the block of the door, if anything.
+    #[tactic(auto, unfolding(crate::specs::Findings::row_fault))]
+    fn refusal(self, block: &Block, i: usize) -> Option<Refusal>
+        requires { i < 510 }
+        ensures { result ≡ row_fault self.doors self.door block.now i }
+    {
+        let byte = block[i];
+        match i {
+            0 => (byte != ROW_MARK).then_some(Refusal::FixedByte),
+            1 => (byte != self.door).then_some(Refusal::FixedByte),
+            2 => (byte >= self.doors).then_some(Refusal::BadList),
+            _ if i < LIST_AT + usize::from(block[2]) => {
+                (!self.may_follow(&block[LIST_AT..i], byte)).then_some(Refusal::BadList)
+            }
+            _ => (byte != 0).then_some(Refusal::FixedByte),
+        }
     }
-}
 
-// Whether a door may come after the doors `before` on the list of `owner`.
-fn may_follow(doors: u8, owner: u8, before: &[u8], door: u8) -> bool
-    ensures { result ≡ may_follow doors owner before.now door }
-{
-    door < doors && door != owner && !is_listed(before, door)
-}
-
-// Whether a door is on a list.
-fn is_listed(list: &[u8], door: u8) -> bool
-    ensures { result ≡ is_some (place list.now door) }
-{
-    list.contains(&door)
-}
-
-// The refusal, unless all is fine.
-fn refuse_unless(fine: bool, refusal: Refusal) -> Option<Refusal>
-    ensures { result ≡ unless fine refusal }
-{
-    if fine { None } else { Some(refusal) }
+    // Whether a door may come after the doors `before` on the list.
+    #[tactic(auto, using(crate::proofs::Listed::listed_same), unfolding(crate::specs::Findings::may_follow))]
+    fn may_follow(self, before: &[u8], door: u8) -> bool
+        ensures { result ≡ may_follow self.doors self.door before.now door }
+    {
+        door < self.doors && door != self.door && !before.contains(&door)
+    }
 }

@@ -1,39 +1,43 @@
-// Writing the blocks of a level file.
+//! Writing the blocks of a level file.
 ghost use Rattle.std.specs.Prelude.{◌≡◌, ◌+◌, ◌≤◌, ◌++◌, length, take};
 ghost use Rattle.codec.specs.Blocks.{block_check, low_high, zeros, padded, sealed, header, row_block};
 ghost use Rattle.codec.specs.Verdicts.{Written};
 
-use crate::block::{BLOCK, BODY, OPENING, ROW_MARK, block_check, wrong_size};
+use crate::block::{BODY, Block, OPENING, ROW_MARK, block_check, wrong_size};
 use faults::Fault;
 
-// The longest list whose length is one byte.
-const LONGEST_LIST: usize = 255;
-
-// Writes the header of a file of n doors into a block.
+/// Writes the header of a file of n doors into a block. Memory of another size is refused and as it was.
+#[tactic(auto, unfolding(crate::specs::Blocks::header))]
 pub fn write_header(block: &mut [u8], n: u8) -> Result<(), Fault>
     ensures { Written (length block.old ≡ 512) (header n) block.old block.new result }
 {
-    if block.len() != BLOCK {
+    let Some(block) = block.as_mut_array() else {
         return Err(wrong_size());
-    }
+    };
     write_block(block, &OPENING, &[n]);
     Ok(())
 }
 
-// Writes the block of a door with its list, which is at most 255 long, since its length is one byte.
+/// Writes the block of a door with its list, which is at most 255 long, since its length is one byte.
+/// A longer list, or memory of another size, is refused, and the memory is as it was.
+#[tactic(auto, unfolding(crate::specs::Blocks::row_block))]
 pub fn write_row(block: &mut [u8], door: u8, list: &[u8]) -> Result<(), Fault>
     ensures { Written ((length block.old ≡ 512) × (length list.now ≤ 255)) (row_block door list.now) block.old block.new result }
 {
-    if block.len() != BLOCK || list.len() > LONGEST_LIST {
+    let Ok(length) = u8::try_from(list.len()) else {
         return Err(wrong_size());
-    }
-    write_block(block, &[ROW_MARK, door, list.len() as u8], list);
+    };
+    let Some(block) = block.as_mut_array() else {
+        return Err(wrong_size());
+    };
+    write_block(block, &[ROW_MARK, door, length], list);
     Ok(())
 }
 
 // Writes the block that opens with these bytes, in two parts. What it held does not matter.
-fn write_block(block: &mut [u8], head: &[u8], list: &[u8])
-    requires { (length block.old ≡ 512) × (length head.now + length list.now ≤ 510) }
+#[tactic(auto, using(crate::proofs::Writing::sealed_body))]
+fn write_block(block: &mut Block, head: &[u8], list: &[u8])
+    requires { length head.now + length list.now ≤ 510 }
     ensures { block.new ≡ sealed (head.now ++ list.now) }
 {
     write_body(block, head, list);
@@ -41,12 +45,13 @@ fn write_block(block: &mut [u8], head: &[u8], list: &[u8])
 }
 
 // Writes what a block opens with, in two parts, and zeros up to its check.
-fn write_body(block: &mut [u8], head: &[u8], list: &[u8])
-    requires { (length block.old ≡ 512) × (length head.now + length list.now ≤ 510) }
+#[tactic(auto, using(crate::proofs::Writing::body_laid))]
+fn write_body(block: &mut Block, head: &[u8], list: &[u8])
+    requires { length head.now + length list.now ≤ 510 }
     ensures { take 510 block.new ≡ padded (head.now ++ list.now) }
 {
     let end = head.len() + list.len();
-    block[0..head.len()].copy_from_slice(head);
+    block[..head.len()].copy_from_slice(head);
     block[head.len()..end].copy_from_slice(list);
     clear(&mut block[end..BODY]);
 }
@@ -59,10 +64,10 @@ fn clear(stretch: &mut [u8])
 }
 
 // Writes the check of a block.
-fn seal(block: &mut [u8])
-    requires { length block.old ≡ 512 }
+#[tactic(auto, using(crate::proofs::Writing::end_put))]
+fn seal(block: &mut Block)
     ensures { block.new ≡ take 510 block.old ++ low_high (block_check block.old) }
 {
     let check = block_check(block).to_le_bytes();
-    block[BODY..BLOCK].copy_from_slice(&check);
+    block[BODY..].copy_from_slice(&check);
 }

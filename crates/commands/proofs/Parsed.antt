@@ -1,25 +1,9 @@
 -- What is written of a command is read as that command alone.
-use Rattle.std.proofs.Common.{◌≡◌, ℕ, ◌-◌, ◌^◌, ◌<◌, List, [], ◌∷◌, ◌++◌, length, get_or, take, drop, None, decimal, sym, ap, ◌∙◌, subst, arith}
+use Rattle.std.proofs.Common.{◌≡◌, ℕ, ◌-◌, ◌^◌, ◌<◌, List, [], ◌∷◌, length, get_or, take, drop, None, ap, arith}
 use Rattle.std.proofs.lemmas.List.{take_rest}
-use Rattle.text.specs.Reads.{Lacks, ReadsBelow}
-use Rattle.text.proofs.Cuts.{one_cut, has_mark, decimal_lacks}
-use Rattle.commands.specs.Written.{ReadsCommand, ReadsPair}
+use Rattle.text.specs.Reads.{ReadsBelow, ReadsPair}
+use Rattle.commands.specs.Written.{ReadsCommand}
 use Rattle.commands.specs.declared.reading.Command.TheVariants.{Strike, Forbid, Favour, Link}
-
--- two numbers have a space between them
-pub no_space : (bytes : List ℕ) → Lacks 32 bytes → ReadsPair bytes None
-no_space bytes h a b i j e = has_mark 32 (decimal a) (decimal b) (subst (Lacks 32) e h)
-
-module _ (bytes first second : List ℕ) (cut : bytes ≡ first ++ (32 ∷ second)) (free : Lacks 32 first) where
-  parts : (a b : ℕ) → a < 256 → bytes ≡ decimal a ++ (32 ∷ decimal b) → (first ≡ decimal a) × (second ≡ decimal b)
-  parts a b i e = one_cut 32 first second (decimal a) (decimal b) (sym cut ∙ e) free (decimal_lacks 32 a (omega arith) (omega arith))
-
-  -- the part before the first space is no number, or the part behind it
-  pub no_first : ReadsBelow (2 ^ 8) first None → ReadsPair bytes None
-  no_first n a b i j e = n a i (parts a b i e).0
-
-  pub no_second : ReadsBelow (2 ^ 8) second None → ReadsPair bytes None
-  no_second n a b i j e = n b j (parts a b i e).1
 
 -- a line that opens with two bytes, and a line of one byte
 pub opens : (line : List ℕ) (x y : ℕ) → 1 < length line → get_or line 0 0 ≡ x → get_or line 1 0 ≡ y → line ≡ x ∷ y ∷ take (length line - 2) (drop 2 line)

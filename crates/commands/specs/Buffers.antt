@@ -1,10 +1,5 @@
 -- A line on its way in.
-use Rattle.std.specs.Prelude.{◌≡◌, ℕ, Bool, true, false, cond, List, [], ◌∷◌, ◌++◌, length, take, Some, None, Option, ◌≢◌, nat_le}
-use Rattle.commands.specs.declared.buffer.LineBuffer.{LineBuffer}
-
--- the line that a buffer holds; nothing where it is too long
-abbrev pub held : LineBuffer → Option (List ℕ)
-held b = cond b.overlong None (Some (take b.len b.bytes))
+use Rattle.std.specs.Prelude.{◌≡◌, ℕ, Bool, true, false, cond, List, [], ◌∷◌, ◌++◌, length, Some, None, Option, ◌≢◌, nat_le}
 
 -- a line as it is kept: as it is with at most 64 bytes, and nothing with more
 abbrev pub kept : List ℕ → Option (List ℕ)

@@ -1,5 +1,5 @@
 -- What a line is answered with, and what it makes of the level.
-use Rattle.std.specs.Prelude.{◌≡◌, ℕ, Bool, not, ◌⊎◌, List, [], map, length, IfOk, Some, None, Ok, Err, string_bytes, codes, Option, Result, String}
+use Rattle.std.specs.Prelude.{◌≡◌, ℕ, Bool, not, ◌⊎◌, List, [], map, length, IfOk, vec_items, Some, None, Ok, Err, string_bytes, codes, Option, Result, String}
 use Rattle.std.specs.List.{range_with_len}
 use Rattle.std.specs.declared.alloc.AllocError.{AllocError}
 use Rattle.std.specs.declared.alloc.Global.{Global}
@@ -11,6 +11,8 @@ use Rattle.level.specs.View.{View, state, is_struck}
 use Rattle.linker.specs.Links.{LinkingFound, NoneFound}
 use Rattle.text.specs.Lines.{linking_line, refused_line}
 use Rattle.commands.specs.Written.{ReadsCommand}
+use Rattle.commands.specs.declared.replies.Reply.{Reply}
+use Rattle.commands.specs.declared.replies.Reply.TheVariants.{Done, Refused, Linked}
 use Rattle.commands.specs.declared.reading.Command.{Command}
 use Rattle.commands.specs.declared.reading.Command.TheVariants.{Strike, Forbid, Favour, Link}
 
@@ -18,6 +20,12 @@ use Rattle.commands.specs.declared.reading.Command.TheVariants.{Strike, Forbid, 
 abbrev pub edit_line : Result (Unit {0}) Fault → List ℕ
 edit_line (Ok _) = codes "ok"
 edit_line (Err f) = refused_line f.refusal
+
+-- the text of a reply
+abbrev pub reply_text : Reply → List ℕ
+reply_text Done = codes "ok"
+reply_text (Refused refusal) = refused_line refusal
+reply_text (Linked standing partners) = linking_line [] (vec_items standing) (vec_items partners)
 
 -- the same from what the edit's checks find
 abbrev pub check_line : Option Fault → List ℕ
@@ -77,3 +85,10 @@ pub record AnswersLine (v : View) (line : Option (List ℕ)) (w : View) (r : Res
   pub heard : Heard line command
   pub level : w ≡ after_line v command
   pub says : IfOk r (λ s. SaysLine v command (string_bytes s))
+
+-- the same, where the answer is a reply
+pub record Replies (v : View) (line : Option (List ℕ)) (w : View) (r : Result Reply AllocError) : Type 0 where
+  pub command : Option Command
+  pub heard : Heard line command
+  pub level : w ≡ after_line v command
+  pub says : IfOk r (λ reply. SaysLine v command (reply_text reply))

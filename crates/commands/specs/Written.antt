@@ -1,11 +1,8 @@
 -- Commands as they are written.
-use Rattle.std.specs.Prelude.{◌≡◌, ℕ, ◌<◌, List, ◌∷◌, ◌++◌, Some, None, codes, decimal, Option, ◌≢◌}
+use Rattle.std.specs.Prelude.{◌≡◌, ℕ, ◌<◌, List, ◌++◌, Some, None, codes, decimal, Option, ◌≢◌}
+use Rattle.text.specs.Reads.{pair_text}
 use Rattle.commands.specs.declared.reading.Command.{Command}
 use Rattle.commands.specs.declared.reading.Command.TheVariants.{Strike, Forbid, Favour, Link}
-
--- two numbers with one space between them
-abbrev pub pair_text : ℕ → ℕ → List ℕ
-pair_text a b = decimal a ++ (32 ∷ decimal b)
 
 -- the line that says a command: its letter, and each number after one space
 abbrev pub command_text : Command → List ℕ
@@ -25,8 +22,3 @@ Bytes Link = Unit {0}
 abbrev pub ReadsCommand : List ℕ → Option Command → Type 0
 ReadsCommand line (Some c) = Bytes c × (line ≡ command_text c)
 ReadsCommand line None = (c : Command) → Bytes c → line ≢ command_text c
-
--- the same of two numbers
-abbrev pub ReadsPair : List ℕ → Option (ℕ × ℕ) → Type 0
-ReadsPair bytes (Some p) = (p.0 < 256) × (p.1 < 256) × (bytes ≡ pair_text p.0 p.1)
-ReadsPair bytes None = (a b : ℕ) → a < 256 → b < 256 → bytes ≢ pair_text a b

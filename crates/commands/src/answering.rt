@@ -1,74 +1,68 @@
-// What a line is answered with.
+//! What a line is answered with.
 ghost use Rattle.std.specs.Prelude.{◌≡◌, IfOk, string_bytes};
 ghost use Rattle.std.specs.Option.{option_map};
 ghost use Rattle.level.specs.View.{view};
-ghost use Rattle.commands.specs.Replies.{edit_line, standing, LinkLine, after, Says, AnswersLine};
+ghost use Rattle.commands.specs.Replies.{reply_text, standing, LinkLine, after, Says, Replies, AnswersLine};
 
 use crate::reading::{Command, read_command};
-use faults::{Fault, Refusal};
+use crate::replies::Reply;
+use faults::Refusal;
 use level::{Level, strike_once};
-use linker::link;
+use linker::{link, memory_for};
 use sources::Source;
 use std::alloc::{AllocError, Global};
-use text::{linking_line, refused_line};
-
-// What an edit of the level came to: `ok`, or its refusal.
-fn edit_line(heap: Global, outcome: Result<(), Fault>) -> Result<String, AllocError>
-    ensures { IfOk result (λ s. string_bytes s ≡ edit_line outcome) }
-{
-    match outcome {
-        Ok(()) => String::from_str(heap, "ok"),
-        Err(fault) => refused_line(heap, fault.refusal),
-    }
-}
 
 // For each door whether it stands.
 fn standing_doors(heap: Global, level: &Level) -> Result<Vec<bool>, AllocError>
     ensures { IfOk result (λ v. v.items ≡ standing (view level.now)) }
 {
-    let mut doors = Vec::new(heap);
-    for door in 0..level.count() {
-        doors.push(!level.is_struck(door))?;
-    }
-    Ok(doors)
+    (0..level.count())
+        .map(|door| !level.is_struck(door))
+        .collect(heap)
 }
 
 // The linking of the level as it stands.
-fn link_line(heap: Global, level: &Level) -> Result<String, AllocError>
-    ensures { IfOk result (λ s. LinkLine (view level.now) (string_bytes s)) }
+fn link_reply(heap: Global, level: &Level) -> Result<Reply, AllocError>
+    ensures { IfOk result (λ reply. LinkLine (view level.now) (reply_text reply)) }
 {
-    let n = level.count() as usize;
-    let doors = standing_doors(heap, level)?;
+    let n = usize::from(level.count());
+    let standing = standing_doors(heap, level)?;
     let mut partners = vec![in heap; 0u16; n]?;
-    let mut memory = vec![in heap; 0u16; 3 * n * n + 8 * n]?;
+    let mut memory = vec![in heap; 0u16; memory_for(level.count())]?;
     match link(level, &mut partners, &mut memory) {
-        Ok(()) => linking_line(heap, "", &doors, &partners),
-        Err(fault) => refused_line(heap, fault.refusal),
+        Ok(()) => Ok(Reply::Linked { standing, partners }),
+        Err(fault) => Ok(Reply::Refused(fault.refusal)),
     }
 }
 
 // Does what a command says.
-fn perform(heap: Global, level: &mut Level, command: Command) -> Result<String, AllocError>
+fn perform(heap: Global, level: &mut Level, command: Command) -> Result<Reply, AllocError>
     ensures level { view level.new ≡ after (view level.old) command }
-    ensures says { IfOk result (λ s. Says (view level.old) command (string_bytes s)) }
+    ensures says { IfOk result (λ reply. Says (view level.old) command (reply_text reply)) }
 {
     match command {
-        Command::Strike(door) => edit_line(heap, strike_once(level, door)),
-        Command::Forbid(a, b) => edit_line(heap, level.forbid(a, b)),
-        Command::Favour(a, b) => edit_line(heap, level.favour(a, b)),
-        Command::Link => link_line(heap, level),
+        Command::Strike(door) => Ok(strike_once(level, door).into()),
+        Command::Forbid(a, b) => Ok(level.forbid(a, b).into()),
+        Command::Favour(a, b) => Ok(level.favour(a, b).into()),
+        Command::Link => link_reply(heap, level),
     }
 }
 
-// Answers one line, or a line that was too long to be read: does what it says, and gives the line to print.
+/// Does what a line says, or a line that was too long to be read, and gives the reply.
+pub fn reply(heap: Global, level: &mut Level, line: Option<&[u8]>) -> Result<Reply, AllocError>
+    ensures { Replies (view level.old) (option_map (λ x. x.now) line.entry) (view level.new) result }
+{
+    let Some(command) = line.and_then(read_command) else {
+        return Ok(Reply::Refused(Refusal::UnreadLine));
+    };
+    perform(heap, level, command)
+}
+
+/// Answers one line, or a line that was too long to be read: does what it says, and gives the line to print.
+// stays: a public function that promised this text before its `Display` stood
 pub fn answer(heap: Global, level: &mut Level, line: Option<&[u8]>) -> Result<String, AllocError>
     ensures { AnswersLine (view level.old) (option_map (λ x. x.now) line.entry) (view level.new) result }
 {
-    let Some(bytes) = line else {
-        return refused_line(heap, Refusal::UnreadLine);
-    };
-    match read_command(bytes) {
-        Some(command) => perform(heap, level, command),
-        None => refused_line(heap, Refusal::UnreadLine),
-    }
+    let reply = reply(heap, level, line)?;
+    format!(in heap; "{reply}")
 }

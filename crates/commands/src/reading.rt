@@ -1,29 +1,22 @@
-// Commands, read from a line.
-ghost use Rattle.commands.specs.Written.{ReadsCommand, ReadsPair};
+//! Commands, read from a line.
+ghost use Rattle.commands.specs.Written.{ReadsCommand};
 
-use text::{byte, split_once};
+use text::{byte, pair};
 
+/// What a line of the console says. Doors are numbers from 0 to 255.
 #[derive(Clone, Copy, PartialEq, Eq, Debug)]
 pub enum Command {
-    // claims a door and strikes it
+    /// claims a door and strikes it
     Strike(u8),
-    // takes two doors off each other's lists
+    /// takes two doors off each other's lists
     Forbid(u8, u8),
-    // moves the second door to the head of the first one's list
+    /// moves the second door to the head of the first one's list
     Favour(u8, u8),
-    // links the level as it stands
+    /// links the level as it stands
     Link,
 }
 
-// Two numbers with one space between them.
-fn pair(bytes: &[u8]) -> Option<(u8, u8)>
-    ensures { ReadsPair bytes.now result }
-{
-    let (first, second) = split_once(bytes, b' ')?;
-    Some((byte(first)?, byte(second)?))
-}
-
-// The command that is written so: a letter and its numbers, each after one space. Nothing where the line is of another form.
+/// The command that is written so: a letter and its numbers, each after one space. Nothing where the line is of another form.
 pub fn read_command(line: &[u8]) -> Option<Command>
     ensures { ReadsCommand line.now result }
 {

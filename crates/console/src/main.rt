@@ -1,63 +1,39 @@
-// The console: commands on the level of the current folder, each answered as it comes.
+//! The console: commands on the level of the current folder, each answered as it comes.
 
 #![tactic(auto)]
 
-use commands::{LineBuffer, answer};
+use anyhow::{Context, Result};
+use commands::{LineBuffer, reply};
 use level::Level;
-use std::io;
-use std::io::Read;
-use text::refused_file_line;
-
-// As much input as is taken at once.
-const CHUNK: usize = 4096;
+use std::io::{BufReader, Read};
+use text::RefusedFile;
 
 // Answers the line that came, and begins the next.
-fn reply(rt: &HostRuntime, level: &mut Level, line: &mut LineBuffer) -> io::Result<()> {
-    let text = answer(rt.alloc(), level, line.line())?;
+fn answer(rt: &HostRuntime, level: &mut Level, line: &mut LineBuffer) -> Result<()> {
+    let reply = reply(rt.alloc(), level, line.line()).context("answering a line")?;
     line.clear();
-    println!(rt; "{text}")
+    println!(rt; "{reply}").context("writing an answer")
 }
 
-// Takes the bytes that came, and answers each line that they end.
-fn hear(
-    rt: &HostRuntime,
-    level: &mut Level,
-    line: &mut LineBuffer,
-    bytes: &[u8],
-) -> io::Result<()> {
-    for byte in bytes {
-        if line.feed(*byte) {
-            reply(rt, level, line)?;
+// Answers each line as it comes. The last may lack its end.
+fn converse(rt: &HostRuntime, level: &mut Level) -> Result<()> {
+    let input = BufReader::new(rt.alloc(), rt.stdin()).context("reading commands")?;
+    let mut line = LineBuffer::new();
+    for byte in input.bytes() {
+        if line.feed(byte.context("reading commands")?) {
+            answer(rt, level, &mut line)?;
         }
+    }
+    if !line.is_empty() {
+        answer(rt, level, &mut line)?;
     }
     Ok(())
 }
 
-// Answers each line as it comes. The last may lack its end.
-fn converse(rt: &HostRuntime, level: &mut Level) -> io::Result<()> {
-    let mut line = LineBuffer::new();
-    let mut input = rt.stdin();
-    let mut chunk = [0u8; CHUNK];
-    for _ in 0..u64::MAX {
-        let count = input.read(&mut chunk)?;
-        if count == 0 {
-            break;
-        }
-        hear(rt, level, &mut line, &chunk[0..count])?;
-    }
-    if line.is_empty() {
-        return Ok(());
-    }
-    reply(rt, level, &mut line)
-}
-
-fn main(rt: HostRuntime) -> io::Result<()> {
-    let file = levels::read_level(&rt)?;
+fn main(rt: HostRuntime) -> Result<()> {
+    let file = levels::read_level(&rt).context("reading the level file")?;
     match codec::read(&file) {
         Ok(table) => converse(&rt, &mut Level::new(&table)),
-        Err(fault) => {
-            let text = refused_file_line(rt.alloc(), fault)?;
-            println!(rt; "{text}")
-        }
+        Err(fault) => println!(rt; "{}", RefusedFile(fault)).context("writing the refusal"),
     }
 }

@@ -1,4 +1,4 @@
-// Tests of the checks of files and surveys at their edges.
+//! Tests of the checks of files and surveys at their edges.
 
 #![tactic(auto)]
 

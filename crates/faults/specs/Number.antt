@@ -1,6 +1,7 @@
 -- The number of each refusal.
-use Rattle.std.specs.Prelude.{ℕ}
+use Rattle.std.specs.Prelude.{◌≡◌, ◌≢◌, ℕ, Ok, Err, Result}
 use Rattle.faults.specs.declared.Refusal.{Refusal}
+use Rattle.faults.specs.declared.UnknownRefusal.{UnknownRefusal}
 use Rattle.faults.specs.declared.Refusal.TheVariants.{NoSuchDoor, SameDoor, DoorGone, DoorHeld, NotListed, TableFull, WrongSize, BadSide, NoStableLinking, FixedByte, BlockCheck, BadList, BadKind, TooManyDoors, NotHolder, ClaimsSpent, UnreadLine}
 
 abbrev pub number : Refusal → ℕ
@@ -21,3 +22,12 @@ number TooManyDoors = 14
 number NotHolder = 16
 number ClaimsSpent = 17
 number UnreadLine = 18
+
+-- a number is read as the refusal that it stands for; otherwise no refusal has it
+abbrev pub Numbers : ℕ → Result Refusal UnknownRefusal → Type 0
+Numbers n (Ok refusal) = number refusal ≡ n
+Numbers n (Err e) = (e ≡ record { 0 = n }) × ((refusal : Refusal) → number refusal ≢ n)
+
+-- no two refusals have one number
+abbrev pub NumbersDiffer : Type 0
+NumbersDiffer = (a b : Refusal) → number a ≡ number b → a ≡ b

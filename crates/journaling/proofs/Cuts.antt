@@ -1,9 +1,9 @@
 -- The lines of a journal, one after another.
-use Rattle.std.proofs.Common.{◌≡◌, ℕ, List, [], ◌∷◌, ◌++◌, length, sym, refl, ap, ◌∙◌, subst, arith}
+use Rattle.std.proofs.Common.{◌≡◌, ℕ, List, [], ◌∷◌, ◌++◌, sym, refl, ap, ◌∙◌, subst}
 use Rattle.std.proofs.lemmas.List.{append_assoc, append-nil}
 use Rattle.journaling.specs.Calls.{LineCall, LineCalls}
 use Rattle.replay.specs.declared.calls.Call.{Call}
-use Rattle.surveying.specs.Survey.{lines}
+use Rattle.text.specs.Texts.{lines}
 
 calls_push : (n : ℕ) (ls : List (List ℕ)) (cs : List Call) (l : List ℕ) (c : Call) → LineCalls n ls cs → LineCall n l c → LineCalls n (ls ++ (l ∷ [])) (cs ++ (c ∷ []))
 calls_push n [] [] l c h k = (k, tt)
@@ -27,6 +27,5 @@ read_more n text rest after line cs cs' c r first k e = record {
   calls = subst (LineCalls n (r.read ++ (line ∷ []))) (sym e) (calls_push n r.read cs line c r.calls k);
 }
 
-pub read_all : (n : ℕ) (text rest : List ℕ) (cs : List Call) → ReadTo n text rest cs → length rest ≡ 0 → LineCalls n (lines text) cs
-read_all n text [] cs r e = subst (λ ls. LineCalls n ls cs) (sym (r.split ∙ append-nil r.read)) r.calls
-read_all n text (c ∷ rest) cs r e = absurd (omega arith)
+pub read_all : (n : ℕ) (text rest : List ℕ) (cs : List Call) → ReadTo n text rest cs → rest ≡ [] → LineCalls n (lines text) cs
+read_all n text rest cs r e = subst (λ ls. LineCalls n ls cs) (sym (r.split ∙ ap (λ l. r.read ++ lines l) e ∙ append-nil r.read)) r.calls

@@ -1,16 +1,17 @@
 -- A ledger after each deed.
-use Rattle.std.proofs.Common.{◌≡◌, ℕ, zero, suc, ◌-◌, ◌<◌, ◌≤◌, Bool, true, false, cond, not, ◌||◌, eqb, ◌≢◌, List, [], ◌∷◌, ◌++◌, map, length, get_or, set, replicate, vec_items, sym, refl, ap, ◌∙◌, ⊎_elim, arith}
-use Rattle.std.specs.List.{range_with_len}
+use Rattle.std.proofs.Common.{◌≡◌, ℕ, zero, suc, ◌<◌, Bool, true, false, cond, not, ◌||◌, eqb, ◌≢◌, List, [], ◌∷◌, ◌++◌, map, length, get_or, set, replicate, Some, None, Option, vec_items, sym, subst, refl, ap, ◌∙◌, ⊎_elim, arith}
+use Rattle.std.specs.List.{range_with_len, slice_get}
+use Rattle.std.proofs.lemmas.Option.{get_or_from_slice_get, slice_get-get_or}
 use Rattle.std.proofs.lemmas.List.FromFn.{fill_by_all, length-map-range_with_len, get_or-map-range_with_len}
-use Rattle.std.proofs.lemmas.List.{get_or_past, length-replicate, get_or-replicate, length-set, get_or-set_same, get_or-set_other}
+use Rattle.std.proofs.lemmas.List.{length-replicate, get_or-replicate, length-set, get_or-set_same, get_or-set_other}
 use Rattle.std.proofs.lemmas.Bool.{cases_eq, eq-eqb, ne_eqb, cond-true, cond-false}
 use Rattle.journaling.specs.declared.ledger.Ledger.{Ledger}
-use Rattle.journaling.specs.Doors.{holding, Kept, Follows}
+use Rattle.journaling.specs.Doors.{holding, claimed_door, Kept, Follows}
 use Rattle.replay.specs.declared.calls.Call.{Call}
 use Rattle.replay.specs.declared.calls.Call.TheVariants.{Claim, Release, Strike, Free, Forbid, Favour, OneWay, Link}
-use Rattle.replay.specs.History.{History, claimed, released, struck, wasted, freed, forbade, favoured, refusing, claims, granted, door, latest, ended, held, gone}
+use Rattle.replay.specs.History.{History, claimed, released, struck, wasted, freed, forbade, favoured, refusing, claims, granted, door, latest, ended, held, out, gone}
 use Rattle.replay.specs.State.{holder}
-use Rattle.replay.proofs.Claims.{held_by, holder_claimed, holder_released, holder_struck, holder_freed}
+use Rattle.replay.proofs.Claims.{held_by, out_granted, holder_claimed, holder_released, holder_struck, holder_freed}
 
 -- one flag written among those of a function
 set_flag : (n x : ℕ) (v : Bool) (f g : ℕ → Bool) → ((e : ℕ) → g e ≡ cond (eqb x e) v (f e)) → set (map f (range_with_len 0 n)) x v ≡ map g (range_with_len 0 n)
@@ -79,8 +80,27 @@ module _ (l l' : Ledger) where
     }
 
 -- the door of a claim, from the doors of all
-pub door_at : (cs : List ℕ) (k x : ℕ) → x ≡ get_or (256 ∷ cs) k 256 → (h : History) → cs ≡ claims h → x ≡ door h k
-door_at cs k x e h q = e ∙ ap (λ l. get_or (256 ∷ l) k 256) q
+pub door_at : (cs : List ℕ) (k x : ℕ) → claimed_door cs k ≡ Some x → (h : History) → cs ≡ claims h → x ≡ door h k
+door_at cs zero x e h q = let z : ◌≡◌ {A = ℕ} 0 1 = cc in absurd (omega arith)
+door_at cs (suc k) x e h q = sym (get_or_from_slice_get cs k x 256 e) ∙ ap (λ l. get_or (256 ∷ l) (suc k) 256) q
+
+-- a claim that is out has a door
+out_claimed : (cs : List ℕ) (h : History) (k : ℕ) → cs ≡ claims h → out h k ≡ true → claimed_door cs k ≡ None → ⊥
+out_claimed cs h zero q o e = omega (arith, (out_granted h 0 o).0)
+out_claimed cs h (suc k) q o e =
+    let within : k < length (claims h) = omega (arith, (out_granted h (suc k) o).1) in
+    let found : slice_get cs k ≡ Some (get_or cs k 0) = slice_get-get_or cs k 0 (subst (λ l. k < length l) (sym q) within) in
+    let z : ◌≡◌ {A = ℕ} 0 1 = cc (e, found) in
+    omega arith
+
+module _ (l : Ledger) (k : ℕ) (o : Option ℕ) (door : o ≡ claimed_door (vec_items l.claimed) k) (none : o ≡ None) where
+  pub follows_unreleased : Follows (released k ∷ []) l l
+  unfolding Follows
+  follows_unreleased n ls h few s s' kept = absurd (out_claimed (vec_items l.claimed) h k kept.granted s'.0 (sym door ∙ none))
+
+  pub follows_unstruck : Follows (struck k ∷ []) l l
+  unfolding Follows
+  follows_unstruck n ls h few s s' kept = absurd (out_claimed (vec_items l.claimed) h k kept.granted s'.0 (sym door ∙ none))
 
 -- deeds that change no claim, strike or hold
 pub follows_none : (l : Ledger) → Follows [] l l
@@ -116,8 +136,3 @@ unfolding claims gone latest ended
 kept_none n l ec es eh = record { granted = ec; stand = es ∙ all_same n true (λ d. true) (λ d. refl); hold = eh ∙ all_same n false (λ d. false) (λ d. refl) } where
   all_same : (n : ℕ) (b : Bool) (f : ℕ → Bool) → ((d : ℕ) → f d ≡ b) → replicate n b ≡ map f (range_with_len 0 n)
   all_same n b f w = fill_by_all f (replicate n b) n b (length-replicate n b) (λ k h. get_or-replicate n k b b h ∙ sym (w k))
-
--- past the last claim there is no door
-pub door_past : (cs : List ℕ) (k : ℕ) → (k ≡ 0 → ⊥) → length cs ≤ k - 1 → 256 ≡ get_or (256 ∷ cs) k 256
-door_past cs zero h i = refl
-door_past cs (suc k) h i = sym (get_or_past cs k 256 (omega arith))

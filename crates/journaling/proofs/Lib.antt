@@ -1,4 +1,5 @@
 pub mod Cuts
+pub mod Heads
 pub mod Ledgers
 pub mod Runs
 pub mod Tallies

@@ -1,7 +1,6 @@
 -- The answers of a run told one after another.
 use Rattle.std.proofs.Common.{◌≡◌, ℕ, zero, suc, ◌+◌, ◌<◌, ◌≤◌, List, [], ◌∷◌, ◌++◌, length, get_or, Some, None, vec_items, codes, sym, refl, ap, ◌∙◌, subst, ⊎_elim, add-one, arith}
 use Rattle.std.specs.List.{range_with_len, flat_map}
-use Rattle.std.proofs.lemmas.List.{get_or_default}
 use Rattle.std.proofs.lemmas.Bool.{cases_lt}
 use Rattle.replay.specs.declared.calls.Answer.{Answer}
 use Rattle.replay.specs.declared.calls.Call.{Call}
@@ -10,17 +9,13 @@ use Rattle.replay.specs.History.{before, deeds, call, said}
 use Rattle.replay.specs.Law.{Answered, Right, Law}
 use Rattle.replay.specs.State.{Sound}
 use Rattle.replay.proofs.Sound.{sound_more}
-use Rattle.surveying.specs.Survey.{lines}
+use Rattle.text.specs.Texts.{lines}
 use Rattle.journaling.specs.declared.ledger.Ledger.{Ledger}
 use Rattle.journaling.specs.Answers.{answer_text}
 use Rattle.journaling.specs.Calls.{LineCall, LineCalls, ReadsCall}
 use Rattle.journaling.specs.Doors.{standing, Kept, Follows}
 use Rattle.journaling.specs.Journal.{answer_line, answer_lines, ending, Journal, journal_text, Ran}
 use Rattle.journaling.proofs.Tallies.{lines_more}
-
--- an element that was read is the one at its place
-pub item_is : {X : Type 0} (xs : List X) (i : ℕ) (d x : X) → i < length xs → x ≡ get_or xs i x → x ≡ get_or xs i d
-item_is xs i d x h e = e ∙ get_or_default xs i x d h
 
 -- the answers before i are told, and the ledger is that of the history before call i
 pub record ToldTo (n : ℕ) (calls : List Call) (answers : List Answer) (i : ℕ) (text : List ℕ) (l : Ledger) : Type 0 where

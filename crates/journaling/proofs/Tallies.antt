@@ -1,21 +1,14 @@
--- What a loop has counted before a place.
-use Rattle.std.proofs.Common.{◌≡◌, ℕ, zero, suc, ◌+◌, ◌<◌, ◌≤◌, Bool, true, false, List, ◌++◌, length, get_or, take, count_by, sym, ap, ◌∙◌, arith}
+-- Lines joined, one more, and the lines of numbers that no refusal has.
+use Rattle.std.proofs.Common.{◌≡◌, ◌≢◌, ℕ, zero, suc, ◌+◌, ◌<◌, cond, eqb, false, List, [], ◌∷◌, ◌++◌, Option, Some, None, refl, sym, ap, ◌∙◌, arith}
 use Rattle.std.specs.List.{range_with_len, flat_map}
-use Rattle.std.proofs.lemmas.List.{append_assoc, append-nil, take_all}
-use Rattle.std.proofs.lemmas.List.Sums.{count_by_more_yes, count_by_more_no}
-
-abbrev pub Counted : {X : Type 0} → (X → Bool) → List X → ℕ → ℕ → Type 0
-Counted p xs i n = (n ≡ count_by p (take i xs)) × (n ≤ i)
-
-module _ {X : Type 0} (p : X → Bool) (xs : List X) (i : ℕ) (n : ℕ) (before : Counted p xs i n) where
-  pub counted_yes : (d : X) (n' : ℕ) → i < length xs → p (get_or xs i d) ≡ true → n' ≡ n + 1 → Counted p xs (i + 1) n'
-  counted_yes d n' h t e = (e ∙ ap (λ k. k + 1) before.0 ∙ sym (count_by_more_yes p xs i d h t), omega (arith, before.1))
-
-  pub counted_no : (d : X) (n' : ℕ) → i < length xs → p (get_or xs i d) ≡ false → n' ≡ n → Counted p xs (i + 1) n'
-  counted_no d n' h t e = (e ∙ before.0 ∙ sym (count_by_more_no p xs i d h t), omega (arith, before.1))
-
-  pub counted_all : length xs ≤ i → n ≡ count_by p xs
-  counted_all h = before.0 ∙ ap (count_by p) (take_all i xs h)
+use Rattle.std.proofs.lemmas.Bool.{ne_eqb}
+use Rattle.std.proofs.lemmas.List.{append_assoc, append-nil}
+use Rattle.std.proofs.lemmas.List.Sums.{sum_by-cons}
+use Rattle.faults.specs.Number.{number}
+use Rattle.faults.specs.declared.Refusal.{Refusal}
+use Rattle.replay.specs.declared.calls.Answer.{Answer}
+use Rattle.journaling.specs.Answers.{counted, refusal, verdict, tally}
+use Rattle.journaling.specs.Summary.{refusal_line}
 
 -- lines joined over the numbers from a on, one more
 pub joined_more : (f : ℕ → List ℕ) (a n j : ℕ) → a + n ≡ j → flat_map f (range_with_len a (suc n)) ≡ flat_map f (range_with_len a n) ++ f j
@@ -26,3 +19,17 @@ joined_more f a (suc n) j e = ap (λ l. f a ++ l) (joined_more f (a + 1) n j (om
 pub lines_more : (f : ℕ → List ℕ) (a n n' j : ℕ) (start old new : List ℕ) → n' ≡ suc n → a + n ≡ j → old ≡ start ++ flat_map f (range_with_len a n) → new ≡ old ++ f j → new ≡ start ++ flat_map f (range_with_len a n')
 lines_more f a n n' j start old new s h e e' =
     e' ∙ ap (λ l. l ++ f j) e ∙ append_assoc start (flat_map f (range_with_len a n)) (f j) ∙ ap (λ l. start ++ l) (sym (joined_more f a n j h) ∙ ap (λ k. flat_map f (range_with_len a k)) (sym s))
+
+-- an answer does not count for a number that no refusal has
+uncounted : (n : ℕ) (r : Option Refusal) → 0 < n → ((x : Refusal) → number x ≢ n) → eqb (counted r) n ≡ false
+uncounted n None h w = ne_eqb 0 n (λ e. omega (arith, h, e))
+uncounted n (Some r) h w = ne_eqb (number r) n (w r)
+
+-- so no answer has it
+no_tally : (n : ℕ) (answers : List Answer) → 0 < n → ((x : Refusal) → number x ≢ n) → tally answers n ≡ 0
+no_tally n [] h w = refl
+no_tally n (a ∷ l) h w = omega (arith, sum_by-cons (λ x. cond (eqb (verdict x) n) 1 0) a l, ap (λ b. cond {A = ℕ} b 1 0) (uncounted n (refusal a) h w), no_tally n l h w)
+
+-- and its line is empty
+pub no_line : (n : ℕ) (answers : List Answer) → 0 < n → ((x : Refusal) → number x ≢ n) → refusal_line n (tally answers n) ≡ []
+no_line n answers h w = ap (refusal_line n) (no_tally n answers h w)

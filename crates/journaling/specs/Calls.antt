@@ -6,10 +6,7 @@ use Rattle.std.specs.declared.alloc.Global.{Global}
 use Rattle.std.specs.List.{AllByRecursion}
 use Rattle.replay.specs.declared.calls.Call.{Call}
 use Rattle.replay.specs.declared.calls.Call.TheVariants.{Claim, Release, Strike, Free, Forbid, Favour, OneWay, Link}
-
--- two numbers with one space between
-abbrev pub two_text : ℕ → ℕ → List ℕ
-two_text a b = decimal a ++ (32 ∷ decimal b)
+use Rattle.text.specs.Reads.{pair_text}
 
 -- sides as digits
 abbrev pub digits_text : List ℕ → List ℕ
@@ -26,8 +23,8 @@ call_text (Claim d) = codes "c " ++ decimal d
 call_text (Release k) = codes "r " ++ decimal k
 call_text (Strike k) = codes "s " ++ decimal k
 call_text (Free d) = codes "u " ++ decimal d
-call_text (Forbid a b) = codes "x " ++ two_text a b
-call_text (Favour a b) = codes "f " ++ two_text a b
+call_text (Forbid a b) = codes "x " ++ pair_text a b
+call_text (Favour a b) = codes "f " ++ pair_text a b
 call_text (OneWay sides output memory) = codes "o" ++ sides_text (vec_items sides)
 call_text (Link output memory) = codes "l"
 
@@ -65,11 +62,6 @@ pub record ReadsCall (n : ℕ) (line : List ℕ) (r : Option Call) : Type 0 wher
 abbrev pub ReadsNumber : List ℕ → Option ℕ → Type 0
 ReadsNumber bs (Some k) = Number k × (bs ≡ decimal k)
 ReadsNumber bs None = (k : ℕ) → Number k → bs ≢ decimal k
-
--- two doors as a part of a line
-abbrev pub ReadsTwo : List ℕ → Option (ℕ × ℕ) → Type 0
-ReadsTwo bs (Some p) = (p.0 < 2 ^ 8) × (p.1 < 2 ^ 8) × (bs ≡ two_text p.0 p.1)
-ReadsTwo bs None = (a b : ℕ) → a < 2 ^ 8 → b < 2 ^ 8 → bs ≢ two_text a b
 
 -- sides as a part of a line
 abbrev pub ReadsSides : List ℕ → Option (Vec ℕ Global) → Type 0

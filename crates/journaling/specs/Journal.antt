@@ -10,7 +10,7 @@ use Rattle.replay.specs.declared.calls.Answer.TheVariants.{NotShown}
 use Rattle.replay.specs.declared.calls.Call.{Call}
 use Rattle.replay.specs.History.{History, before, said}
 use Rattle.replay.specs.Law.{Answered, Law}
-use Rattle.surveying.specs.Survey.{lines}
+use Rattle.text.specs.Texts.{lines}
 use Rattle.text.specs.Lines.{refused_file_line}
 use Rattle.journaling.specs.Answers.{answer_text}
 use Rattle.journaling.specs.Calls.{LineCalls, ReadsCall}

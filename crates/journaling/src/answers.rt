@@ -1,52 +1,80 @@
-// Answers as lines.
-ghost use Rattle.std.specs.Prelude.{◌≡◌, IfOk, string_bytes};
+//! Answers as lines.
+ghost use Rattle.std.specs.Prelude.{Some};
 ghost use Rattle.journaling.specs.Answers.{answer_text, linked_text};
 
 use faults::Refusal;
 use replay::Answer;
-use std::alloc::{AllocError, Global};
+use std::fmt;
+use text::{Linking, RefusedCall};
 
 // The line of a one-way linking: its number of proposals, and each entry after one space.
-fn linked_line(
-    heap: Global,
-    standing: &[bool],
+#[derive(Clone, Copy)]
+struct OneWayLine<'a> {
     proposals: u16,
-    output: &[u16],
-) -> Result<String, AllocError>
-    ensures { IfOk result (λ s. string_bytes s ≡ linked_text standing.now proposals output.now) }
-{
-    let head = format!(in heap; "{proposals} proposals:")?;
-    text::linking_line(heap, head.as_str(), standing, output)
+    standing: &'a [bool],
+    partners: &'a [u16],
+}
+
+impl<'a> fmt::Display for OneWayLine<'a> {
+    ghost output = { λ line. Some (linked_text line.standing.now line.proposals line.partners.now) };
+
+    fn fmt<W: fmt::Write>(&self, f: &mut fmt::Formatter<W>) -> fmt::Result {
+        let linking = Linking {
+            begun: true,
+            standing: self.standing,
+            partners: self.partners,
+        };
+        write!(f, "{} proposals:{linking}", self.proposals)
+    }
 }
 
 // The line of an answer, where these doors stand.
-pub(crate) fn answer_text(
-    heap: Global,
-    standing: &[bool],
-    answer: &Answer,
-) -> Result<String, AllocError>
-    ensures { IfOk result (λ s. string_bytes s ≡ answer_text standing.now answer.now) }
-{
-    match answer {
-        Answer::Claimed(number) => format!(in heap; "claim {number}"),
-        Answer::Granted => String::from_str(heap, "ok"),
-        Answer::Refused(fault) => text::refused_line(heap, fault.refusal),
-        Answer::NotShown => text::refused_line(heap, Refusal::UnreadLine),
-        Answer::OneWay {
-            proposals: Ok(proposals),
-            output,
-        } => linked_line(heap, standing, *proposals, output.as_slice()),
-        Answer::OneWay {
-            proposals: Err(fault),
-            ..
-        } => text::refused_line(heap, fault.refusal),
-        Answer::Link {
-            linked: Ok(()),
-            output,
-        } => text::linking_line(heap, "", standing, output.as_slice()),
-        Answer::Link {
-            linked: Err(fault),
-            ..
-        } => text::refused_line(heap, fault.refusal),
+#[derive(Clone, Copy)]
+pub(crate) struct AnswerLine<'a> {
+    pub(crate) standing: &'a [bool],
+    pub(crate) answer: &'a Answer,
+}
+
+impl<'a> fmt::Display for AnswerLine<'a> {
+    ghost output = { λ line. Some (answer_text line.standing.now line.answer.now) };
+
+    fn fmt<W: fmt::Write>(&self, f: &mut fmt::Formatter<W>) -> fmt::Result {
+        let standing = self.standing;
+        match self.answer {
+            Answer::Claimed(number) => write!(f, "claim {number}"),
+            Answer::Granted => f.write_str("ok"),
+            Answer::Refused(fault)
+            | Answer::OneWay {
+                proposals: Err(fault),
+                ..
+            }
+            | Answer::Link {
+                linked: Err(fault),
+                ..
+            } => write!(f, "{}", RefusedCall(fault.refusal)),
+            Answer::NotShown => write!(f, "{}", RefusedCall(Refusal::UnreadLine)),
+            Answer::OneWay {
+                proposals: Ok(proposals),
+                output,
+            } => {
+                let line = OneWayLine {
+                    proposals: *proposals,
+                    standing,
+                    partners: output,
+                };
+                write!(f, "{line}")
+            }
+            Answer::Link {
+                linked: Ok(()),
+                output,
+            } => {
+                let linking = Linking {
+                    begun: false,
+                    standing,
+                    partners: output,
+                };
+                write!(f, "{linking}")
+            }
+        }
     }
 }

@@ -1,85 +1,72 @@
-// Answers counted.
-ghost use Rattle.std.specs.Prelude.{◌≡◌, count_by};
-ghost use Rattle.journaling.specs.Answers.{last_pairs, lower, pairs, pairs_after, tally, verdict};
+//! Answers counted.
+ghost use Rattle.std.specs.Prelude.{◌≡◌, count_by, nat_eq};
+ghost use Rattle.journaling.specs.Answers.{counted, last_pairs, lower, pairs, pairs_after, refusal, tally, verdict};
 
 use faults::Refusal;
 use replay::Answer;
 
-// What is counted of a grant.
-pub(crate) const GRANTED: u8 = 0;
-
-// Stands for 'no partner' in a linking.
-const UNLINKED: u16 = 65535;
-
-// What is counted of an answer.
-fn verdict(answer: &Answer) -> u8
-    ensures { result ≡ verdict answer.now }
+// The refusal that an answer gives, if it gives one. A claim that cannot be shown is answered like a line that is not read.
+fn refusal(answer: &Answer) -> Option<Refusal>
+    ensures { result ≡ refusal answer.now }
 {
     match answer {
-        Answer::Claimed(_) => GRANTED,
-        Answer::Granted => GRANTED,
-        Answer::Refused(fault) => fault.refusal.number(),
-        Answer::NotShown => Refusal::UnreadLine.number(),
-        Answer::OneWay {
-            proposals: Ok(_),
-            ..
-        } => GRANTED,
-        Answer::OneWay {
+        Answer::Refused(fault)
+        | Answer::OneWay {
             proposals: Err(fault),
             ..
-        } => fault.refusal.number(),
-        Answer::Link { linked: Ok(()), .. } => GRANTED,
-        Answer::Link {
+        }
+        | Answer::Link {
             linked: Err(fault),
             ..
-        } => fault.refusal.number(),
+        } => Some(fault.refusal),
+        Answer::NotShown => Some(Refusal::UnreadLine),
+        Answer::Claimed(_)
+        | Answer::Granted
+        | Answer::OneWay {
+            proposals: Ok(_),
+            ..
+        }
+        | Answer::Link { linked: Ok(()), .. } => None,
     }
 }
 
-// How many answers have a verdict.
-pub(crate) fn count(answers: &[Answer], wanted: u8) -> usize
-    ensures { result ≡ tally answers.now wanted }
+// How many answers give this refusal, or how many give none.
+pub(crate) fn count(answers: &[Answer], wanted: Option<Refusal>) -> usize
+    ensures { result ≡ tally answers.now (counted wanted) }
 {
-    let mut found = 0;
-    for answer in answers {
-        if verdict(answer) == wanted {
-            found += 1;
-        }
-    }
-    found
+    answers
+        .iter()
+        .filter(
+            |answer|
+                ensures { result ≡ nat_eq (verdict answer.now.now) (counted wanted) }
+            { refusal(answer) == wanted },
+        )
+        .count()
 }
 
 // How many of these are so.
 pub(crate) fn count_true(flags: &[bool]) -> usize
     ensures { result ≡ count_by (λ b. b) flags.now }
 {
-    let mut found = 0;
-    for flag in flags {
-        if *flag {
-            found += 1;
-        }
-    }
-    found
+    flags.iter().filter(|flag| **flag).count()
 }
 
-// Whether a door is the lower door of a pair with this partner.
-fn is_lower(door: usize, partner: u16) -> bool
-    ensures { result ≡ lower door partner }
+// Whether a door is the lower door of a pair, where a linking holds this for it.
+fn is_lower(door: usize, held: u16) -> bool
+    ensures { result ≡ lower door held }
 {
-    door < usize::from(partner) && partner != UNLINKED
+    text::partner(held).is_some_and(|partner| door < usize::from(partner))
 }
 
 // The pairs of a linking.
 fn pairs(partners: &[u16]) -> usize
     ensures { result ≡ pairs partners.now }
 {
-    let mut found = 0;
-    for door in 0..partners.len() {
-        if is_lower(door, partners[door]) {
-            found += 1;
-        }
-    }
-    found
+    partners
+        .iter()
+        .enumerate()
+        .filter(|(door, held)| is_lower(*door, **held))
+        .count()
 }
 
 // The pairs of the last linking, after one more answer.
@@ -90,11 +77,11 @@ fn pairs_after(before: usize, answer: &Answer) -> usize
         Answer::OneWay {
             proposals: Ok(_),
             output,
-        } => pairs(output.as_slice()),
-        Answer::Link {
+        }
+        | Answer::Link {
             linked: Ok(()),
             output,
-        } => pairs(output.as_slice()),
+        } => pairs(output),
         _ => before,
     }
 }
@@ -103,9 +90,7 @@ fn pairs_after(before: usize, answer: &Answer) -> usize
 pub(crate) fn last_pairs(answers: &[Answer]) -> usize
     ensures { result ≡ last_pairs answers.now }
 {
-    let mut last = 0;
-    for answer in answers {
-        last = pairs_after(last, answer);
-    }
-    last
+    answers
+        .iter()
+        .fold(0, |last, answer| pairs_after(last, answer))
 }

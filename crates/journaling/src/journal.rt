@@ -1,30 +1,23 @@
-// The whole text of a journal.
+//! The whole text of a journal.
 ghost use Rattle.std.specs.Prelude.{◌≡◌, ◌++◌, IfOk, string_bytes, codes, OnOk};
 ghost use Rattle.journaling.specs.Answers.{answer_text};
 ghost use Rattle.journaling.specs.Doors.{Kept};
 ghost use Rattle.journaling.specs.Journal.{FileJournal, Journal, Ran, answer_lines, ending, journal_text};
 
-use crate::answers::answer_text;
+use crate::answers::AnswerLine;
 use crate::ledger::Ledger;
 use crate::lines::read_calls;
-use crate::report::summary;
+use crate::report::Report;
 use replay::{Answer, Call};
 use sources::Source;
 use std::alloc::{AllocError, Global};
+use text::RefusedFile;
 
 // Adds the line of an answer, where these doors stand.
-fn add_line(
-    heap: Global,
-    text: &mut String,
-    standing: &[bool],
-    answer: &Answer,
-) -> Result<(), AllocError>
+fn add_line(text: &mut String, standing: &[bool], answer: &Answer) -> Result<(), AllocError>
     ensures { OnOk result (string_bytes text.new ≡ string_bytes text.old ++ (answer_text standing.now answer.now ++ codes "\n")) }
 {
-    let line = answer_text(heap, standing, answer)?;
-    text.push_str(line.as_str())?;
-    text.push('\n')?;
-    Ok(())
+    writeln!(text, "{}", AnswerLine { standing, answer })
 }
 
 // The lines of all answers, and the ledger at the end.
@@ -39,10 +32,9 @@ fn answer_lines(
 {
     let mut text = String::new(heap);
     let mut ledger = Ledger::new(heap, doors)?;
-    for i in 0..answers.len() {
-        let answer = &answers[i];
-        add_line(heap, &mut text, ledger.standing.as_slice(), answer)?;
-        ledger.note(&calls[i], answer)?;
+    for (call, answer) in calls.iter().zip(answers) {
+        add_line(&mut text, &ledger.standing, answer)?;
+        ledger.note(call, answer)?;
     }
     Ok((text, ledger))
 }
@@ -58,18 +50,17 @@ fn run_text(
     ensures { IfOk result (λ s. string_bytes s ≡ journal_text doors calls.now answers.now) }
 {
     let (mut text, ledger) = answer_lines(heap, doors, calls, answers)?;
-    text.push('\n')?;
-    let rest = summary(
-        heap,
-        ledger.standing.as_slice(),
-        ledger.held.as_slice(),
+    let report = Report {
+        ledger: &ledger,
         answers,
-    )?;
-    text.push_str(rest.as_str())?;
+    };
+    let summary = report.summary(heap)?;
+    text.push('\n')?;
+    text.push_str(&summary)?;
     Ok(text)
 }
 
-// What a journal over a source prints: the answer to each line, an empty line and the summary.
+/// What a journal over a source prints: the answer to each line, an empty line and the summary.
 pub fn journal_text<S: Source>(heap: Global, source: &S, input: &[u8]) -> Result<String, AllocError>
     ensures { IfOk result (λ s. Journal (S.Source.lists source.now) input.now (string_bytes s)) }
 {
@@ -79,16 +70,12 @@ pub fn journal_text<S: Source>(heap: Global, source: &S, input: &[u8]) -> Result
     run_text(heap, doors, calls.as_slice(), answers.as_slice())
 }
 
-// What a journal over a level file prints. A refused file gives one line with its fault.
+/// What a journal over a level file prints. A refused file gives one line with its fault.
 pub fn file_journal(heap: Global, file: &[u8], input: &[u8]) -> Result<String, AllocError>
     ensures { IfOk result (λ s. FileJournal file.now input.now (string_bytes s)) }
 {
     match codec::read(file) {
         Ok(table) => journal_text(heap, &table, input),
-        Err(fault) => {
-            let mut text = text::refused_file_line(heap, fault)?;
-            text.push('\n')?;
-            Ok(text)
-        }
+        Err(fault) => format!(in heap; "{}\n", RefusedFile(fault)),
     }
 }

@@ -1,4 +1,4 @@
-// A journal: calls on a level, one a line, and what is answered to them.
+//! A journal: calls on a level, one a line, and what is answered to them.
 
 #![tactic(auto)]
 

@@ -1,7 +1,8 @@
-// The call that a line says.
-ghost use Rattle.std.specs.Prelude.{◌≡◌, ℕ, [], ◌∷◌, IfOk, ◌≢◌};
-ghost use Rattle.journaling.specs.Calls.{ReadsCall, ReadsNumber, ReadsSides, ReadsTwo, SaysCall, SideDigits};
+//! The call that a line says.
+ghost use Rattle.std.specs.Prelude.{◌≡◌, ℕ, ◌+◌, ◌*◌, [], ◌∷◌, IfOk, replicate, ◌≢◌};
+ghost use Rattle.journaling.specs.Calls.{ReadsCall, ReadsNumber, ReadsSides, SaysCall, SideDigits};
 
+use linker::memory_for;
 use replay::Call;
 use std::alloc::{AllocError, Global};
 
@@ -9,39 +10,23 @@ use std::alloc::{AllocError, Global};
 const LINE_LIMIT: usize = 128;
 
 // The number of a claim.
+#[tactic(auto, using(crate::proofs::Texts::no_zero))]
 fn read_number(bytes: &[u8]) -> Option<u32>
     ensures { ReadsNumber bytes.now result }
 {
-    let number = text::number(bytes)?;
-    if number == 0 {
-        return None;
-    }
-    Some(number)
-}
-
-// Two doors with one space between.
-fn read_two(bytes: &[u8]) -> Option<(u8, u8)>
-    ensures { ReadsTwo bytes.now result }
-{
-    let (first, second) = text::split_once(bytes, b' ')?;
-    Some((text::byte(first)?, text::byte(second)?))
+    text::number(bytes).filter(|number| *number != 0)
 }
 
 // The sides that these digits say.
+#[tactic(auto, using(crate::proofs::Texts::reads_sides))]
 fn read_sides(heap: Global, digits: &[u8]) -> Result<Option<Vec<u8>>, AllocError>
     ensures { IfOk result (λ o. ReadsSides digits.now o) }
 {
-    let mut sides = Vec::new(heap);
-    for digit in digits {
-        if !digit.is_ascii_digit() {
-            return Ok(None);
-        }
-        sides.push(*digit - b'0')?;
-    }
-    Ok(Some(sides))
+    text::digits(heap, digits)
 }
 
 // The digits after the letter of a one-way linking: none at all, or some after one space.
+#[tactic(auto, using(crate::proofs::Texts::after_one, crate::proofs::Texts::cut_sides))]
 fn side_digits(rest: &[u8]) -> Option<&[u8]>
     ensures { SideDigits rest.now result }
 {
@@ -51,6 +36,14 @@ fn side_digits(rest: &[u8]) -> Option<&[u8]>
         [b' ', digits @ ..] => Some(digits),
         _ => None,
     }
+}
+
+// The output of a linking of so many doors, and how many numbers of working memory it asks for.
+fn room(heap: Global, doors: u8) -> Result<(Vec<u16>, usize), AllocError>
+    ensures { IfOk result (λ r. (r.0.items ≡ replicate doors 0) × (r.1 ≡ 3 * doors * doors + 8 * doors)) }
+{
+    let output = vec![in heap; 0; usize::from(doors)]?;
+    Ok((output, memory_for(doors)))
 }
 
 // The one-way linking that a line says whose letter stands before `rest`.
@@ -63,9 +56,7 @@ fn read_one_way(heap: Global, doors: u8, rest: &[u8]) -> Result<Option<Call>, Al
     let Some(sides) = read_sides(heap, digits)? else {
         return Ok(None);
     };
-    let n = usize::from(doors);
-    let output = vec![in heap; 0; n]?;
-    let memory = 3 * n * n + 8 * n;
+    let (output, memory) = room(heap, doors)?;
     Ok(Some(Call::OneWay {
         sides,
         output,
@@ -77,9 +68,7 @@ fn read_one_way(heap: Global, doors: u8, rest: &[u8]) -> Result<Option<Call>, Al
 fn link_call(heap: Global, doors: u8) -> Result<Option<Call>, AllocError>
     ensures { IfOk result (λ o. SaysCall doors (108 ∷ []) o) }
 {
-    let n = usize::from(doors);
-    let output = vec![in heap; 0; n]?;
-    let memory = 3 * n * n + 8 * n;
+    let (output, memory) = room(heap, doors)?;
     Ok(Some(Call::Link { output, memory }))
 }
 
@@ -93,11 +82,11 @@ fn read_edit(letter: u8, rest: &[u8]) -> Option<Call>
         b's' => Some(Call::Strike(read_number(rest)?)),
         b'u' => Some(Call::Free(text::byte(rest)?)),
         b'x' => {
-            let (first, second) = read_two(rest)?;
+            let (first, second) = text::pair(rest)?;
             Some(Call::Forbid(first, second))
         }
         b'f' => {
-            let (first, second) = read_two(rest)?;
+            let (first, second) = text::pair(rest)?;
             Some(Call::Favour(first, second))
         }
         _ => None,

@@ -1,72 +1,76 @@
-// The summary of a run.
+//! The summary of a run.
 ghost use Rattle.std.specs.Prelude.{◌≡◌, ◌++◌, IfOk, string_bytes, OnOk};
+ghost use Rattle.faults.specs.Number.{number};
 ghost use Rattle.journaling.specs.Summary.{call_lines, refusal_line, refusal_lines, state_lines, summary_text};
 
-use crate::counts::{GRANTED, count, count_true, last_pairs};
+use crate::counts::{count, count_true, last_pairs};
+use crate::ledger::Ledger;
+use faults::Refusal;
 use replay::Answer;
 use std::alloc::{AllocError, Global};
 
-// What is counted of an answer that says that no call was made. Refusals have the numbers below.
-const UNREAD: u8 = 18;
-
-// The lines with the calls made and granted.
-fn call_lines(heap: Global, answers: &[Answer]) -> Result<String, AllocError>
-    ensures { IfOk result (λ s. string_bytes s ≡ call_lines answers.now) }
-{
-    let made = answers.len() - count(answers, UNREAD);
-    let granted = count(answers, GRANTED);
-    format!(in heap; "calls {made}\ngranted {granted}\n")
-}
-
 // Adds the line of a refusal that occurred.
-fn add_refusal(heap: Global, text: &mut String, refusal: u8, times: usize) -> Result<(), AllocError>
-    ensures { OnOk result (string_bytes text.new ≡ string_bytes text.old ++ refusal_line refusal times) }
+fn add_refusal(text: &mut String, refusal: Refusal, times: usize) -> Result<(), AllocError>
+    ensures { OnOk result (string_bytes text.new ≡ string_bytes text.old ++ refusal_line (number refusal) times) }
 {
     if times == 0 {
         return Ok(());
     }
-    let line = format!(in heap; "refused {refusal}: {times}\n")?;
-    text.push_str(line.as_str())
+    writeln!(text, "refused {}: {times}", u8::from(refusal))
 }
 
-// Adds the lines of all refusals that occurred.
-fn add_refusals(heap: Global, text: &mut String, answers: &[Answer]) -> Result<(), AllocError>
-    ensures { OnOk result (string_bytes text.new ≡ string_bytes text.old ++ refusal_lines answers.now) }
-{
-    for refusal in 1..UNREAD {
-        add_refusal(heap, text, refusal, count(answers, refusal))?;
+// What a summary tells: the answers of a run, and what it has done to the doors.
+#[derive(Clone, Copy)]
+pub(crate) struct Report<'a> {
+    pub(crate) ledger: &'a Ledger,
+    pub(crate) answers: &'a [Answer],
+}
+
+impl<'a> Report<'a> {
+    // Adds the lines with the calls made and granted.
+    fn add_calls(&self, text: &mut String) -> Result<(), AllocError>
+        ensures { OnOk result (string_bytes text.new ≡ string_bytes text.old ++ call_lines self.now.answers.now) }
+    {
+        let made = self.answers.len() - count(self.answers, Some(Refusal::UnreadLine));
+        let granted = count(self.answers, None);
+        writeln!(text, "calls {made}\ngranted {granted}")
     }
-    Ok(())
-}
 
-// The lines with unread lines, doors and pairs.
-fn state_lines(
-    heap: Global,
-    standing: &[bool],
-    held: &[bool],
-    answers: &[Answer],
-) -> Result<String, AllocError>
-    ensures { IfOk result (λ s. string_bytes s ≡ state_lines standing.now held.now answers.now) }
-{
-    let unread = count(answers, UNREAD);
-    let stand = count_true(standing);
-    let hold = count_true(held);
-    let pairs = last_pairs(answers);
-    format!(in heap; "unread {unread}\nstanding {stand}\nheld {hold}\npairs {pairs}\n")
-}
+    // Adds the lines of all refusals that occurred, their numbers rising.
+    fn add_refusals(&self, text: &mut String) -> Result<(), AllocError>
+        ensures { OnOk result (string_bytes text.new ≡ string_bytes text.old ++ refusal_lines self.now.answers.now) }
+    {
+        let answers = self.answers;
+        for number in 1..u8::from(Refusal::UnreadLine) {
+            if let Ok(refusal) = Refusal::try_from(number) {
+                add_refusal(text, refusal, count(answers, Some(refusal)))?;
+            }
+        }
+        Ok(())
+    }
 
-// The summary of the answers, where these doors stand and these are held at the end.
-pub(crate) fn summary(
-    heap: Global,
-    standing: &[bool],
-    held: &[bool],
-    answers: &[Answer],
-) -> Result<String, AllocError>
-    ensures { IfOk result (λ s. string_bytes s ≡ summary_text standing.now held.now answers.now) }
-{
-    let mut text = call_lines(heap, answers)?;
-    add_refusals(heap, &mut text, answers)?;
-    let rest = state_lines(heap, standing, held, answers)?;
-    text.push_str(rest.as_str())?;
-    Ok(text)
+    // Adds the lines with unread lines, doors and pairs.
+    fn add_state(&self, text: &mut String) -> Result<(), AllocError>
+        ensures { OnOk result (string_bytes text.new ≡ string_bytes text.old ++ state_lines self.now.ledger.now.standing.items self.now.ledger.now.held.items self.now.answers.now) }
+    {
+        let unread = count(self.answers, Some(Refusal::UnreadLine));
+        let stand = count_true(&self.ledger.standing);
+        let hold = count_true(&self.ledger.held);
+        let pairs = last_pairs(self.answers);
+        writeln!(
+            text,
+            "unread {unread}\nstanding {stand}\nheld {hold}\npairs {pairs}"
+        )
+    }
+
+    // The whole summary.
+    pub(crate) fn summary(&self, heap: Global) -> Result<String, AllocError>
+        ensures { IfOk result (λ s. string_bytes s ≡ summary_text self.now.ledger.now.standing.items self.now.ledger.now.held.items self.now.answers.now) }
+    {
+        let mut text = String::new(heap);
+        self.add_calls(&mut text)?;
+        self.add_refusals(&mut text)?;
+        self.add_state(&mut text)?;
+        Ok(text)
+    }
 }

@@ -1,15 +1,10 @@
 -- What a table of live records holds, and what becomes of its records.
-use Rattle.std.specs.Prelude.{ℕ, suc, Bool, false, cond, not, ◌&&◌, ◌||◌, List, [], ◌∷◌, ◌++◌, length, take, drop, nat_le}
-use Rattle.level.specs.declared.live.Live.{Live}
-
--- the live records
-abbrev pub entries : {X : Type 0} → Live X → List X
-entries t = take t.len t.records
+use Rattle.std.specs.Prelude.{Bool, cond, not, ◌&&◌, List, [], ◌∷◌, ◌++◌, length, nat_le}
+use Rattle.std.specs.List.{list_any}
 
 -- some record passes the test
 abbrev pub among : {X : Type 0} → (X → Bool) → List X → Bool
-among p [] = false
-among p (x ∷ xs) = p x || among p xs
+among p xs = list_any p xs
 
 -- there are 64 records, and none passes the test
 abbrev pub full : {X : Type 0} → (X → Bool) → List X → Bool
@@ -23,7 +18,3 @@ noted p x (y ∷ ys) = cond (p y) (x ∷ ys) (y ∷ noted p x ys)
 -- the record x comes behind the last, unless some record passes the test
 abbrev pub added : {X : Type 0} → (X → Bool) → X → List X → List X
 added p x xs = cond (among p xs) xs (xs ++ (x ∷ []))
-
--- the record x at place i, or behind the last where i is the number of records
-abbrev pub written : {X : Type 0} → ℕ → X → List X → List X
-written i x l = take i l ++ (x ∷ drop (suc i) l)

@@ -7,7 +7,6 @@ use Rattle.level.specs.declared.doors.DoorState.{DoorState}
 use Rattle.level.specs.declared.doors.DoorState.TheVariants.{Open, Held, Struck}
 use Rattle.level.specs.declared.records.Favour.{Favour}
 use Rattle.level.specs.declared.records.Pair.{Pair}
-use Rattle.level.specs.Tables.{entries}
 
 pub record View : Type 0 where
   -- the lists of the moment
@@ -24,7 +23,7 @@ pub record View : Type 0 where
   pub turn : ℕ
 
 abbrev pub view : Level → View
-view l = record { lists = rows l.lists; doors = l.doors.states; granted = l.granted; favours = entries l.favours; pairs = entries l.pairs; turn = l.turn }
+view l = record { lists = rows l.lists; doors = l.doors.states; granted = l.granted; favours = l.favours; pairs = l.pairs; turn = l.turn }
 
 -- a new level: the source's lists, nothing held or struck, no claim granted, nothing favoured or forbidden
 abbrev pub fresh : List (List ℕ) → View

@@ -1,15 +1,15 @@
-// A new level, and a level as a source.
+//! A new level, and a level as a source.
 ghost use Rattle.std.specs.Prelude.{◌≡◌};
 ghost use Rattle.level.specs.View.{view, fresh};
-ghost use Rattle.std.proofs.Common.{rules};
 
 use crate::doors::Doors;
 use crate::live::Live;
 use crate::{Favour, Level, Pair};
-use sources::{Source, copied};
+use lists::ListTable;
+use sources::{Source, Tabled, copied};
 
 impl Level {
-    // A level that starts with the lists of a source.
+    /// A level that starts with the lists of a source, every door open.
     pub fn new<S: Source>(source: &S) -> Level
         ensures { view result ≡ fresh (S.Source.lists source.now) }
     {
@@ -31,21 +31,11 @@ impl Level {
     }
 }
 
-// The lists of the moment.
-impl Source for Level {
-    ghost lists = { λ l. (view l).lists };
+// As a source a level has the lists of the moment.
+impl Tabled for Level {
+    ghost held = { λ level. level.lists };
 
-    ghost sound = { Prim.search rules };
-
-    fn count(&self) -> u8 {
-        self.lists.count()
-    }
-
-    fn length(&self, door: u8) -> u8 {
-        self.lists.length(door)
-    }
-
-    fn place(&self, door: u8, other: u8) -> Option<u8> {
-        self.lists.place(door, other)
+    fn table(&self) -> &ListTable {
+        &self.lists
     }
 }

@@ -1,23 +1,30 @@
-// What the tables of a level hold: records of two doors.
-ghost use Rattle.std.specs.Prelude.{◌≡◌, ℕ};
+//! What the tables of a level hold: records of two doors.
+ghost use Rattle.std.specs.Prelude.{◌≡◌, Bool};
 ghost use Rattle.level.specs.Meant.{meant};
 
-// Two doors that may not be linked to each other.
+/// Two doors that may not be linked to each other.
 #[derive(Clone, Copy, PartialEq, Eq, Debug)]
 pub struct Pair {
+    /// One of the two doors.
     pub first: u8,
+    /// The other one.
     pub second: u8,
 }
 
-// The second door was moved to the head of the first one's list, the last time at this turn.
+/// The second door was moved to the head of the first one's list, the last time at this turn, counted from 1.
 #[derive(Clone, Copy, PartialEq, Eq, Debug)]
 pub struct Favour {
+    /// The door whose list was changed.
     pub first: u8,
+    /// The door that was moved to its head.
     pub second: u8,
+    /// The turn, counted from 1.
     pub turn: u64,
 }
 
 // Which records are meant: those of one door, of two doors in either order, or of two doors in this order.
+// stays: a closure is no plainer: for `is_meant about` the clauses of a table would say of every test that the closure decides it
+// (`(test : T → Bool) → ((x : T) (b : Bool) → FnReturnsAt F.Fn f x b → b ≡ test x) → ..`), and forbid and strike would need answers
 #[derive(Clone, Copy)]
 pub(crate) enum About {
     Door(u8),
@@ -40,18 +47,18 @@ impl About {
 
 // A record of two doors.
 pub(crate) trait Linked: Copy {
-    ghost first: { Self → ℕ };
+    ghost use Rattle.level.specs.declared.records.About.{About};
 
-    ghost second: { Self → ℕ };
+    ghost is_meant: { About → Self → Bool };
 
+    // Is this record meant?
     fn is_about(&self, about: About) -> bool
-        ensures { result ≡ meant about (first self.now) (second self.now) };
+        ensures { result ≡ is_meant about self.now };
 }
 
+// stays: alike for both records, but one impl for both would need a getter of the two doors in each, as long as this
 impl Linked for Pair {
-    ghost first = { λ p. p.first };
-
-    ghost second = { λ p. p.second };
+    ghost is_meant = { λ about pair. meant about pair.first pair.second };
 
     fn is_about(&self, about: About) -> bool {
         about.means(self.first, self.second)
@@ -59,9 +66,7 @@ impl Linked for Pair {
 }
 
 impl Linked for Favour {
-    ghost first = { λ f. f.first };
-
-    ghost second = { λ f. f.second };
+    ghost is_meant = { λ about favour. meant about favour.first favour.second };
 
     fn is_about(&self, about: About) -> bool {
         about.means(self.first, self.second)

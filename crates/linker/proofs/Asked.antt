@@ -8,8 +8,8 @@ use Rattle.matching.specs.Lists.{row, place, Lawful, PlaceOf}
 use Rattle.matching.specs.Linkings.{listed, accept, exit, entrance, counts_one_way}
 use Rattle.matching.proofs.Rows.{place_view}
 use Rattle.sources.proofs.Asked.{some_view}
-use Rattle.linker.specs.Tables.{mark, Holds, table_row, tabled}
-use Rattle.linker.specs.Meanings.{lists_in, Sound}
+use Rattle.linker.specs.Tables.{mark, Holds, table_row, tabled, Sound}
+use Rattle.linker.specs.Meanings.{lists_in}
 use Rattle.linker.specs.declared.tables.Tables.{Tables}
 use Rattle.linker.proofs.Written.{row_short, row_room}
 
@@ -22,7 +22,7 @@ marked l y b = go (place l y) (place_view l y)
     go (Some p) v = sym (ap not (ne_eqb p 65535 (λ e. omega (arith, v.0))))
 
 -- for an exit and a door on its list, only the other's side and list count
-pub counts_where : (ls : List (List ℕ)) (sides : List ℕ) (x y : ℕ) → exit sides x ≡ true → listed ls x y ≡ true → counts_one_way ls sides x y ≡ (eqb (get_or sides y 2) 1 && listed ls y x)
+pub counts_where : (ls : List (List ℕ)) (sides : List ℕ) (x y : ℕ) → exit sides x ≡ true → listed ls x y ≡ true → counts_one_way ls sides x y ≡ (entrance sides y && listed ls y x)
 unfolding counts_one_way accept exit entrance
 counts_where ls sides x y a b = grind (arith, nat_tests, a, b, eqb-true (get_or sides x 2) 0 a)
 
@@ -44,31 +44,31 @@ unfolding tabled
 tabled_length n lists sizes = length-map-range_with_len (table_row n lists sizes) 0 n
 
 -- what sound tables tell
-module _ (t : Tables) (s : Sound t) where
+module _ (t : Tables) where
   count : length (lists_in t) ≡ t.count
   count = tabled_length t.count t.lists.now t.sizes.now
 
   pub told_place : (x y : ℕ) → x < t.count → y < t.count → get_or t.places.now (x * t.count + y) 0 ≡ mark (place (row (lists_in t) x) y)
   told_place x y a b =
-      subst (λ m. get_or t.places.now (x * m + y) 0 ≡ mark (place (row (lists_in t) x) y)) count (s.holds.placed x y (omega (arith, count)) (omega (arith, count)))
+      subst (λ m. get_or t.places.now (x * m + y) 0 ≡ mark (place (row (lists_in t) x) y)) count (t.sound.holds.placed x y (omega (arith, count)) (omega (arith, count)))
 
   pub told_door : (x k : ℕ) → k < length (row (lists_in t) x) → get_or t.lists.now (x * t.count + k) 0 ≡ get_or (row (lists_in t) x) k 0
   told_door x k a =
       subst (λ m. get_or t.lists.now (x * m + k) 0 ≡ get_or (row (lists_in t) x) k 0) count
-      (s.holds.listed x k (⊎_elim (λ b. b) (λ b. absurd (omega (arith, a, ap length (get_or_past (lists_in t) x [] b)))) (cases_lt x (length (lists_in t)))) a)
+      (t.sound.holds.listed x k (⊎_elim (λ b. b) (λ b. absurd (omega (arith, a, ap length (get_or_past (lists_in t) x [] b)))) (cases_lt x (length (lists_in t)))) a)
 
   pub told_size : (x : ℕ) → x < t.count → get_or t.sizes.now x 0 ≡ length (row (lists_in t) x)
-  told_size x b = s.holds.sized x (omega (arith, count))
+  told_size x b = t.sound.holds.sized x (omega (arith, count))
 
   -- a door on an exit's list takes it where it is an entrance that marks it
   pub told_takes : (sides : List ℕ) (x y : ℕ) → exit sides x ≡ true → listed (lists_in t) x y ≡ true
-      → counts_one_way (lists_in t) sides x y ≡ (eqb (get_or sides y 2) 1 && not (eqb (get_or t.places.now (y * t.count + x) 0) 65535))
+      → counts_one_way (lists_in t) sides x y ≡ (entrance sides y && not (eqb (get_or t.places.now (y * t.count + x) 0) 65535))
   unfolding listed
   told_takes sides x y a b =
-      let d = listed_doors (lists_in t) x y s.legal b in
+      let d = listed_doors (lists_in t) x y t.sound.legal b in
       counts_where (lists_in t) sides x y a b
-      ∙ ap (λ v. eqb (get_or sides y 2) 1 && v)
-      (marked (row (lists_in t) y) x (omega (arith, s.legal.few, row_short (lists_in t) y s.legal)) ∙ ap (λ v. not (eqb v 65535)) (sym (told_place y x (omega (arith, count)) (omega (arith, count)))))
+      ∙ ap (λ v. entrance sides y && v)
+      (marked (row (lists_in t) y) x (omega (arith, t.sound.legal.few, row_short (lists_in t) y t.sound.legal)) ∙ ap (λ v. not (eqb v 65535)) (sym (told_place y x (omega (arith, count)) (omega (arith, count)))))
 
 -- the door at a place of a list is on the list
 pub row_listed : (ls : List (List ℕ)) (x k : ℕ) → k < length (row ls x) → listed ls x (get_or (row ls x) k 0) ≡ true
@@ -97,3 +97,9 @@ read_tables n ls lists places sizes f e w h =
     (λ x b.
     get_or-map-range_with_len (table_row n lists sizes) 0 n x x [] (omega (arith, tabled_length n lists sizes)) (omega arith)
     ∙ ap (λ m. table_row m lists sizes x) e ∙ read_row ls lists places sizes x f (w ∙ ap (λ m. m * m) e) h (omega (arith, tabled_length n lists sizes)))
+
+-- and they are sound
+pub read_sound : (n : ℕ) (ls : List (List ℕ)) (lists places sizes : List ℕ) → Lawful ls → n ≡ length ls → length lists ≡ n * n → Holds ls lists places sizes → Sound n lists places sizes
+read_sound n ls lists places sizes f e w h =
+    let same = read_tables n ls lists places sizes f e w h in
+    record { legal = subst Lawful (sym same) f; holds = subst (λ l. Holds l lists places sizes) (sym same) h }

@@ -1,12 +1,14 @@
 -- A proposal as the program makes it: the pointer moves on, and the door that is asked takes the asker as its last.
-use Rattle.std.proofs.Common.{◌≡◌, ℕ, ◌<◌, ◌⊎◌, List, length, get_or, set, Some, None, sym, ap, ◌∙◌, subst, inl, inr, ⊎_elim, arith}
+use Rattle.std.proofs.Common.{◌≡◌, ℕ, ◌<◌, ◌⊎◌, Bool, true, false, not, refl, List, length, get_or, set, Some, None, sym, ap, ◌∙◌, subst, inl, inr, ⊎_elim, arith}
+use Rattle.std.specs.Bool.{then_some}
 use Rattle.std.proofs.lemmas.List.{get_or_past, get_or-set_same, get_or-set_other, length-set}
 use Rattle.std.proofs.lemmas.Bool.{cases_eq, cases_lt}
 use Rattle.matching.specs.Lists.{row, Lawful}
 use Rattle.matching.specs.Settled.{Empty, Firsts}
-use Rattle.matching.proofs.Proposing.{First, Asked, asked_less, on_kept}
-use Rattle.matching.proofs.Tables.{first, rows_firsts}
-use Rattle.matching.proofs.Holders.{Underway, OnTheWay, underway_holding, underway_next, underway_falls, underway_ends}
+use Rattle.matching.specs.Holders.{First, first, Underway, OnTheWay}
+use Rattle.matching.proofs.Proposing.{Asked, asked_less, on_kept}
+use Rattle.matching.proofs.Tables.{rows_firsts}
+use Rattle.matching.proofs.Holders.{underway_holding, underway_next, underway_falls, underway_ends}
 use Rattle.linker.specs.Holders.{ranks, lasts, Remains, NextKept, Marked, Settles, Proposed}
 use Rattle.linker.proofs.Standing.{orders, lawful_ranks, rank_own, ranked_doors, still_remains, remains_still}
 
@@ -116,7 +118,7 @@ module _ (ls : List (List ℕ)) (f : Lawful ls) (holder keep first : List ℕ) (
 
     -- its first takes it
     module _ (v : ℕ) (w : v ≡ ranks ls y x) (free : lasts holder y ≡ x → ⊥) where
-      marks : Marked ls (set holder y x) (set keep y v) (set first x j)
+      pub marks : Marked ls (set holder y x) (set keep y v) (set first x j)
       marks = marked_asked ls f holder keep (set first x j) (marked_first ls f holder keep first m x j b n) x y v here w
 
       step : Asked (ranks ls) (lasts holder) x y (lasts (set holder y x))
@@ -125,11 +127,11 @@ module _ (ls : List (List ℕ)) (f : Lawful ls) (holder keep first : List ℕ) (
       next : Underway ls (ranks ls) (lasts (set holder y x))
       next = underway_next ls f (ranks ls) (orders ls f) (lasts holder) (lasts (set holder y x)) x y u step free
 
-      pub proposed_last : lasts holder y ≡ y → Proposed ls x holder (set holder y x) (set keep y v) (set first x j) None
+      proposed_last : lasts holder y ≡ y → Proposed ls x holder (set holder y x) (set keep y v) (set first x j) None
       proposed_last h =
           record { marked = marks; under = next; settles = λ z s _. settles_asked ls f holder keep first m x y v here w z s (inl h); goes = tt }
 
-      pub proposed_next : (lasts holder y < length ls) → Proposed ls x holder (set holder y x) (set keep y v) (set first x j) (Some (lasts holder y))
+      proposed_next : (lasts holder y < length ls) → Proposed ls x holder (set holder y x) (set keep y v) (set first x j) (Some (lasts holder y))
       proposed_next small =
           record {
             marked = marks;
@@ -137,6 +139,12 @@ module _ (ls : List (List ℕ)) (f : Lawful ls) (holder keep first : List ℕ) (
             settles = λ z s c. settles_asked ls f holder keep first m x y v here w z s (inr (λ i. c (ap Some i)));
             goes = (small, underway_falls ls f (ranks ls) (orders ls f) (lasts holder) (lasts (set holder y x)) x y u step free);
           }
+
+      -- it lets go whom it held, if anybody
+      pub proposed_taken : (own : Bool) → (own ≡ true → lasts holder y ≡ y) → (own ≡ false → lasts holder y < length ls)
+          → Proposed ls x holder (set holder y x) (set keep y v) (set first x j) (then_some (not own) (lasts holder y))
+      proposed_taken true h s = proposed_last (h refl)
+      proposed_taken false h s = proposed_next (s refl)
 
 -- whom a door holds is a door of the level
 pub held_door : (ls : List (List ℕ)) → Lawful ls → (holder : List ℕ) → Underway ls (ranks ls) (lasts holder) → (y : ℕ) → (lasts holder y ≡ y → ⊥) → lasts holder y < length ls

@@ -1,32 +1,19 @@
 -- The end of the two-way linking: the lists have one door at most and are written down, or there is no stable linking.
-use Rattle.std.proofs.Common.{◌≡◌, ℕ, ◌+◌, ◌<◌, ◌⊎◌, List, length, set, Some, None, sym, ap, ◌∙◌, inl, inr, ⊎_elim, arith}
-use Rattle.std.proofs.lemmas.List.{get_or_past, get_or-set_same, get_or-set_other}
-use Rattle.std.proofs.lemmas.Bool.{cases_eq, cases_lt}
+use Rattle.std.proofs.Common.{◌≡◌, ℕ, List, length, Some, None, inl, inr, ⊎_elim, arith}
+use Rattle.std.proofs.lemmas.List.{get_or_past}
+use Rattle.std.proofs.lemmas.Bool.{cases_lt}
 use Rattle.matching.specs.Lists.{Lawful}
-use Rattle.matching.specs.Linkings.{unlinked, partner}
+use Rattle.matching.specs.Linkings.{unlinked}
 use Rattle.matching.specs.TwoWay.{Outcome}
-use Rattle.matching.proofs.Bridge.{Writes}
-use Rattle.matching.proofs.Tables.{first, rows_firsts}
-use Rattle.matching.proofs.Holders.{OnTheWay, way_links}
+use Rattle.matching.specs.Holders.{Writes, first, OnTheWay}
+use Rattle.matching.proofs.Tables.{rows_firsts}
+use Rattle.matching.proofs.Holders.{way_links}
 use Rattle.matching.proofs.TwoWay.{two_way_is_decided}
 use Rattle.linker.specs.Holders.{ranks, lasts}
 use Rattle.linker.specs.Rounds.{Single, Lowered}
 use Rattle.linker.specs.Links.{LinkingFound, NoneFound, WritesTo}
 use Rattle.linker.proofs.Standing.{orders, ranked_doors}
 use Rattle.linker.proofs.Walking.{single_same}
-
--- one more entry
-pub writes_more : (holder out : List ℕ) (k v : ℕ) → k < length out → WritesTo k holder out → ((lasts holder k ≡ k) × (v ≡ unlinked)) ⊎ ((lasts holder k ≡ k → ⊥) × (v ≡ lasts holder k)) → WritesTo (k + 1) holder (set out k v)
-writes_more holder out k v b w here x i =
-    ⊎_elim
-    (λ (e : x ≡ k). let same : partner (set out k v) x ≡ v = ap (partner (set out k v)) e ∙ get_or-set_same out k v unlinked b in
-    ⊎_elim
-    (λ c. inl (ap (lasts holder) e ∙ c.0 ∙ sym e, same ∙ c.1))
-    (λ c. inr (λ q. c.0 (ap (lasts holder) (sym e) ∙ q ∙ e), same ∙ c.1 ∙ ap (lasts holder) (sym e)))
-    here)
-    (λ n. let other : partner (set out k v) x ≡ partner out x = get_or-set_other out k x v unlinked n in
-    ⊎_elim (λ c. inl (c.0, other ∙ c.1)) (λ c. inr (c.0, other ∙ c.1)) (w x (omega arith)))
-    (cases_eq x k)
 
 module _ (ls : List (List ℕ)) (law : Lawful ls) where
   -- what is written down is the linking of the last doors

@@ -1,15 +1,15 @@
 -- The elimination of a rotation, door by door, and what comes of it.
-use Rattle.std.proofs.Common.{◌≡◌, ℕ, suc, ◌+◌, ◌<◌, ◌≤◌, Bool, true, false, List, length, get_or, set, None, sym, refl, ap, ◌∙◌, subst, ⊎_elim, arith}
+use Rattle.std.proofs.Common.{◌≡◌, ℕ, suc, ◌+◌, ◌<◌, ◌≤◌, List, length, get_or, set, None, Ok, Err, Result, sym, refl, ap, ◌∙◌, subst, ⊎_elim, arith}
 use Rattle.std.proofs.lemmas.List.{get_or-set_same, get_or-set_other, length-set}
 use Rattle.std.proofs.lemmas.Bool.{cases_eq, cases_lt}
 use Rattle.matching.specs.Lists.{row, Lawful}
-use Rattle.matching.specs.Rotations.{Rotation, Moved, Eliminated}
+use Rattle.matching.specs.Rotations.{Rotation, Moved, Eliminated, PartMoved}
 use Rattle.matching.specs.TwoWay.{second, walk, Outcome}
+use Rattle.matching.specs.Holders.{first, OnTheWay}
 use Rattle.matching.proofs.Proposing.{on_kept}
-use Rattle.matching.proofs.Rotating.{PartMoved, part_none, part_more, part_all, in_period, seconds_apart, shorter, on_before, before_second, first_leaves}
-use Rattle.matching.proofs.Tables.{first}
+use Rattle.matching.proofs.Rotating.{part_none, part_more, part_all, in_period, seconds_apart, shorter, on_before, before_second, first_leaves}
 use Rattle.matching.proofs.Reducing.{rotation, eliminated_made, reduction_falls, empties_some, empties_none, reduced_next}
-use Rattle.matching.proofs.Holders.{OnTheWay}
+use Rattle.linker.specs.declared.marks.Emptied.{Emptied}
 use Rattle.linker.specs.Holders.{ranks, lasts, Remains, Marked}
 use Rattle.linker.specs.Rounds.{InRound, Cutting, Cut, Keeps, Lowered, Rotated}
 use Rattle.linker.proofs.Standing.{orders, lawful_ranks, ranked_pair, ranked_doors, ranked_door}
@@ -133,8 +133,8 @@ module _ (ls : List (List ℕ)) (law : Lawful ls) (holder : List ℕ) (way : OnT
           ap (λ t. get_or keep' t 0) (turn.doors i b) ∙ m.placed x (ranked_doors ls law x (second way.1 x) (second_near i)).0,
         )
 
-    pub rotated_on : (l : ℕ) (keep first₀ : List ℕ) → Lowered ls l holder keep first₀ seconds → Keeps round seconds keep' true → Rotated ls l holder holder' keep' first' seconds true
-    rotated_on l keep first₀ low keeps =
+    pub rotated_on : (l : ℕ) (keep first₀ : List ℕ) → Lowered ls l holder keep first₀ seconds → (u : Unit {0}) → Keeps round seconds keep' (Ok u) → Rotated ls l holder holder' keep' first' seconds (Ok u)
+    rotated_on l keep first₀ low u keeps =
         let T : List (List ℕ) = way.1 in
         let stays : (i : ℕ) → ranks ls (walk T d (from + i)) (second T (walk T d (from + i))) ≤ ranks ls (walk T d (from + i)) (lasts holder' (walk T d (from + i))) =
         in_period (λ i. walk T d (from + i)) (length round) turn.some rotates.again (λ x. ranks ls x (second T x) ≤ ranks ls x (lasts holder' x))
@@ -157,8 +157,8 @@ module _ (ls : List (List ℕ)) (law : Lawful ls) (holder : List ℕ) (way : OnT
           reduction_falls ls law (ranks ls) (orders ls law) T (lasts holder) way.3 d turn.low from (length round) turn.some turn.back (lasts holder') E,
         )
 
-    pub rotated_out : Keeps round seconds keep' false → Outcome ls None
-    rotated_out (i, b, less) =
+    pub rotated_out : (e : Emptied) → Keeps round seconds keep' (Err e) → Outcome ls None
+    rotated_out e (i, b, less) =
         let T : List (List ℕ) = way.1 in
         let (T', q) = eliminated_made ls law (ranks ls) (orders ls law) T (lasts holder) way.3 d turn.low from (length round) turn.some turn.back (lasts holder') E in (
           way.0,
@@ -172,8 +172,8 @@ module _ (ls : List (List ℕ)) (law : Lawful ls) (holder : List ℕ) (way : OnT
 
 -- the elimination goes on or ends, as the test says
 pub rotated : (ls : List (List ℕ)) → Lawful ls → (l : ℕ) (holder keep first₀ seconds holder' keep' first' round : List ℕ) → Lowered ls l holder keep first₀ seconds → Cut ls holder holder' seconds round
-    → Marked ls holder' keep' first' → (r : Bool) → Keeps round seconds keep' r → Rotated ls l holder holder' keep' first' seconds r
-rotated ls law l holder keep first₀ seconds holder' keep' first' round low (way, d, from, turn, E) m true k =
-    rotated_on ls law holder way d from seconds round turn holder' keep' first' m E l keep first₀ low k
-rotated ls law l holder keep first₀ seconds holder' keep' first' round low (way, d, from, turn, E) m false k =
-    rotated_out ls law holder way d from seconds round turn holder' keep' first' m E k
+    → Marked ls holder' keep' first' → (r : Result (Unit {0}) Emptied) → Keeps round seconds keep' r → Rotated ls l holder holder' keep' first' seconds r
+rotated ls law l holder keep first₀ seconds holder' keep' first' round low (way, d, from, turn, E) m (Ok u) k =
+    rotated_on ls law holder way d from seconds round turn holder' keep' first' m E l keep first₀ low u k
+rotated ls law l holder keep first₀ seconds holder' keep' first' round low (way, d, from, turn, E) m (Err e) k =
+    rotated_out ls law holder way d from seconds round turn holder' keep' first' m E e k

@@ -2,14 +2,16 @@
 use Rattle.std.proofs.Common.{◌≡◌, ℕ, ◌+◌, ◌*◌, ◌<◌, ◌≤◌, true, false, List, length, get_or, sym, ap, ◌∙◌, ⊎_elim, arith}
 use Rattle.std.proofs.lemmas.List.{get_or_past}
 use Rattle.std.proofs.lemmas.Bool.{and_from, cases_lt, cases_Bool, cond-true, cond-false}
-use Rattle.matching.specs.Lists.{row, place, Lawful}
+use Rattle.matching.specs.Lists.{row, place, Lawful, rank}
 use Rattle.matching.specs.Linkings.{listed, accept}
 use Rattle.matching.specs.Ranks.{Ranks}
-use Rattle.matching.proofs.Positions.{rank, rank_cases, rank_here, rank_place, rank_most}
-use Rattle.matching.proofs.Bridge.{Ranking, row_rank, row_ranking, accept_pairing, near_pair, pair_listed, pair_self, pair_door, ranking_ranks, rank_listed}
+use Rattle.matching.specs.Holders.{row_rank}
+use Rattle.matching.proofs.Positions.{rank_cases, rank_here, rank_place, rank_most}
+use Rattle.matching.proofs.Bridge.{Ranking, row_ranking, accept_pairing, near_pair, pair_listed, pair_self, pair_door, ranking_ranks, rank_listed}
 use Rattle.linker.specs.Tables.{mark}
-use Rattle.linker.specs.Meanings.{lists_in, Sound}
+use Rattle.linker.specs.Meanings.{lists_in}
 use Rattle.linker.specs.declared.tables.Tables.{Tables}
+use Rattle.linker.specs.declared.marks.Marks.{Marks}
 use Rattle.linker.specs.Holders.{ranks, lasts, Remains, Still, Marked}
 use Rattle.linker.proofs.Written.{row_short}
 use Rattle.linker.proofs.Asked.{tabled_length, told_place, row_listed}
@@ -97,32 +99,36 @@ pub tables_count : (t : Tables) → length (lists_in t) ≡ t.count
 tables_count t = tabled_length t.count t.lists.now t.sizes.now
 
 -- the tables tell it
-module _ (t : Tables) (s : Sound t) (keep : List ℕ) (short : (y : ℕ) → get_or keep y 0 ≤ length (row (lists_in t) y)) (x : ℕ) (door : x < t.count) where
+module _ (t : Tables) (keep : List ℕ) (short : (y : ℕ) → get_or keep y 0 ≤ length (row (lists_in t) y)) (x : ℕ) (door : x < t.count) where
   pub told_still : (k : ℕ) → k < length (row (lists_in t) x) → k ≤ get_or keep x 0
       → get_or t.places.now (get_or (row (lists_in t) x) k 0 * t.count + x) 0 ≤ get_or keep (get_or (row (lists_in t) x) k 0) 0
       → Still (lists_in t) keep x (get_or (row (lists_in t) x) k 0) × (ranks (lists_in t) x (get_or (row (lists_in t) x) k 0) ≡ k)
   told_still k b c e =
       let ls = lists_in t in
       let y : ℕ = get_or (row ls x) k 0 in
-      let small : y < t.count = omega (arith, (s.legal.each x).known k b, tables_count t) in
-      let told = told_place t s y x small door in
+      let small : y < t.count = omega (arith, (t.sound.legal.each x).known k b, tables_count t) in
+      let told = told_place t y x small door in
       let a : accept ls x y ≡ true =
-      marks_back ls s.legal x k b (omega (arith, e, told, short y, row_short ls y s.legal, s.legal.few)) in
-      let at = door_rank ls s.legal x k b a in
-      let back = rank_mark ls s.legal y x ((accept_pairing ls).both x y a) in
-      (((orders ls s.legal).near x y a, omega (arith, at, c), omega (arith, e, told, back)), at)
+      marks_back ls t.sound.legal x k b (omega (arith, e, told, short y, row_short ls y t.sound.legal, t.sound.legal.few)) in
+      let at = door_rank ls t.sound.legal x k b a in
+      let back = rank_mark ls t.sound.legal y x ((accept_pairing ls).both x y a) in
+      (((orders ls t.sound.legal).near x y a, omega (arith, at, c), omega (arith, e, told, back)), at)
 
   pub still_told : (y : ℕ) → Still (lists_in t) keep x y → (get_or (row (lists_in t) x) (ranks (lists_in t) x y) 0 ≡ y) × (get_or t.places.now (y * t.count + x) 0 ≤ get_or keep y 0)
   still_told y q =
       let ls = lists_in t in
-      let a = ranked_pair ls s.legal x y q.0 in
-      let small : y < t.count = omega (arith, (ranked_doors ls s.legal x y q.0).1, tables_count t) in
-      (ranked_door ls s.legal x y a, omega (arith, q.2, told_place t s y x small door, rank_mark ls s.legal y x ((accept_pairing ls).both x y a)))
+      let a = ranked_pair ls t.sound.legal x y q.0 in
+      let small : y < t.count = omega (arith, (ranked_doors ls t.sound.legal x y q.0).1, tables_count t) in
+      (ranked_door ls t.sound.legal x y a, omega (arith, q.2, told_place t y x small door, rank_mark ls t.sound.legal y x ((accept_pairing ls).both x y a)))
 
 -- the place of x on the list of a door that accepts it
-pub told_rank : (t : Tables) → Sound t → (x y : ℕ) → ranks (lists_in t) x y < ranks (lists_in t) x x → get_or t.places.now (y * t.count + x) 0 ≡ ranks (lists_in t) y x
-told_rank t s x y h =
+pub told_rank : (t : Tables) → (x y : ℕ) → ranks (lists_in t) x y < ranks (lists_in t) x x → get_or t.places.now (y * t.count + x) 0 ≡ ranks (lists_in t) y x
+told_rank t x y h =
     let ls = lists_in t in
-    let d = ranked_doors ls s.legal x y h in
-    told_place t s y x (omega (arith, d.1, tables_count t)) (omega (arith, d.0, tables_count t))
-    ∙ rank_mark ls s.legal y x ((accept_pairing ls).both x y (ranked_pair ls s.legal x y h))
+    let d = ranked_doors ls t.sound.legal x y h in
+    told_place t y x (omega (arith, d.1, tables_count t)) (omega (arith, d.0, tables_count t))
+    ∙ rank_mark ls t.sound.legal y x ((accept_pairing ls).both x y (ranked_pair ls t.sound.legal x y h))
+
+-- the marks of a type lie on the lists
+pub marks_short : (m : Marks) (y : ℕ) → get_or m.keep.now y 0 ≤ length (row (lists_in m.tables) y)
+marks_short m = marked_short (lists_in m.tables) m.tables.sound.legal m.holder.now m.keep.now m.first.now m.marked

@@ -1,11 +1,10 @@
 -- Steps of the walk to a rotation: the second on a list, and the last on its list.
-use Rattle.std.proofs.Common.{◌≡◌, ℕ, ◌<◌, ◌≤◌, Bool, true, false, List, length, get_or, set, is_some, Some, None, Option, sym, refl, ap, ◌∙◌, subst, ⊎_elim, arith}
+use Rattle.std.proofs.Common.{◌≡◌, ℕ, ◌<◌, ◌≤◌, Bool, true, false, List, length, get_or, set, is_some, Some, None, Option, MatchOption, sym, refl, ap, ◌∙◌, subst, ⊎_elim, arith}
 use Rattle.std.proofs.lemmas.List.{get_or-set_same, get_or-set_other}
 use Rattle.std.proofs.lemmas.Bool.{cases_eq}
 use Rattle.matching.specs.Lists.{row, Lawful}
+use Rattle.matching.specs.Holders.{first, OnTheWay}
 use Rattle.matching.proofs.Settled.{last_on}
-use Rattle.matching.proofs.Tables.{first}
-use Rattle.matching.proofs.Holders.{OnTheWay}
 use Rattle.linker.specs.Holders.{ranks, lasts, Remains, NextKept, Marked}
 use Rattle.linker.specs.Rounds.{Single, Double, HasTwo, Ahead, SecondOn, Stepped}
 use Rattle.linker.proofs.Standing.{lawful_ranks, still_remains, remains_still}
@@ -53,6 +52,12 @@ module _ (ls : List (List ℕ)) (law : Lawful ls) (holder keep first' : List ℕ
             (last_on (ranks ls) (lasts holder) (first way.1) (lawful_ranks ls law) S x),
         omega (arith, b, n.3, m.placed x door),
       )
+
+  -- what the next place tells
+  pub two_told : OnTheWay ls (ranks ls) (lasts holder) → (r : Option ℕ) → NextKept ls keep x (get_or first' x 0) r → (b : Bool) → (F : ℕ → Type 0)
+      → MatchOption r (b ≡ false) F → ((k : ℕ) → F k → ((b ≡ true → k < get_or keep x 0) × (b ≡ false → get_or keep x 0 ≤ k))) → HasTwo ls holder x b
+  two_told way None n b F e p = subst (HasTwo ls holder x) (sym e) (single_none n)
+  two_told way (Some k) n b F e p = two_are_kept ls holder x b (λ t. double_first k way n ((p k e).0 t)) (λ f. single_first k n ((p k e).1 f))
 
   module _ (seconds : List ℕ) (ahead : Ahead ls holder seconds) (double : Double ls holder x) where
     -- the first is found

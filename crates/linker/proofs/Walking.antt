@@ -6,12 +6,12 @@ use Rattle.matching.specs.Lists.{row, Lawful}
 use Rattle.matching.specs.Rotations.{Walk}
 use Rattle.matching.specs.Settled.{Firsts, Second}
 use Rattle.matching.specs.TwoWay.{Lowest, second, walk}
+use Rattle.matching.specs.Holders.{first, OnTheWay}
 use Rattle.matching.proofs.Search.{walk_repeats}
 use Rattle.matching.proofs.Settled.{second_one}
 use Rattle.matching.proofs.Rotating.{walk_seconds}
-use Rattle.matching.proofs.Tables.{first, rows_firsts, row_second, rows_seconds, two_apart, one_same}
+use Rattle.matching.proofs.Tables.{rows_firsts, row_second, rows_seconds, two_apart, one_same}
 use Rattle.matching.proofs.Reducing.{walk_goes}
-use Rattle.matching.proofs.Holders.{OnTheWay}
 use Rattle.linker.specs.Holders.{ranks, lasts, Remains}
 use Rattle.linker.specs.Rounds.{Single, Double, SecondOn, Stepped, Walked, InRound}
 use Rattle.linker.proofs.Standing.{orders, lawful_ranks, ranked_doors}

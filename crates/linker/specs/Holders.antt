@@ -5,9 +5,7 @@ use Rattle.matching.specs.Lists.{row}
 use Rattle.matching.specs.Linkings.{accept}
 use Rattle.matching.specs.Ranks.{On}
 use Rattle.matching.specs.Settled.{Empty}
-use Rattle.matching.proofs.Bridge.{row_rank}
-use Rattle.matching.proofs.Search.{total}
-use Rattle.matching.proofs.Holders.{Underway}
+use Rattle.matching.specs.Holders.{row_rank, total, Underway}
 
 -- the rank of one door for another: its place on the list where the two accept each other, otherwise the list's length
 abbrev pub ranks : List (List ℕ) → ℕ → ℕ → ℕ

@@ -5,3 +5,4 @@ pub mod Holders
 pub mod OneWay
 pub mod Rounds
 pub mod Links
+pub mod Parts

@@ -1,9 +1,10 @@
 -- What `link` answers.
-use Rattle.std.specs.Prelude.{◌≡◌, ℕ, ◌+◌, ◌*◌, ◌<◌, ◌≤◌, Bool, true, false, ◌⊎◌, List, length, Some, None, Ok, Err, Option, Result, ◌≢◌}
+use Rattle.std.specs.Prelude.{◌≡◌, ℕ, ◌+◌, ◌*◌, ◌<◌, ◌≤◌, ◌⊎◌, List, length, Some, None, Ok, Err, Option, Result, ◌≢◌}
 use Rattle.faults.specs.declared.Fault.{Fault}
 use Rattle.faults.specs.declared.Refusal.TheVariants.{WrongSize, NoStableLinking}
 use Rattle.matching.specs.Linkings.{unlinked, accept, partner, Linking, BlockingPair, Stable}
 use Rattle.matching.specs.TwoWay.{Outcome}
+use Rattle.linker.specs.declared.marks.Emptied.{Emptied}
 use Rattle.linker.specs.Holders.{lasts}
 use Rattle.linker.specs.OneWay.{linker_fault}
 
@@ -34,9 +35,9 @@ Linked ls out out' memory memory' (Err f) =
     × (((Space (length ls) out memory → ⊥) × (memory' ≡ memory) × (f ≡ linker_fault WrongSize 0)) ⊎ (Space (length ls) out memory × NoneFound ls × (f ≡ linker_fault NoStableLinking 0)))
 
 -- whether the doors were linked, and the output then
-abbrev pub DoorsLinked : List (List ℕ) → List ℕ → List ℕ → Bool → Type 0
-DoorsLinked ls out out' true = LinkingFound ls out'
-DoorsLinked ls out out' false = NoneFound ls × (out' ≡ out)
+abbrev pub DoorsLinked : List (List ℕ) → List ℕ → List ℕ → Result (Unit {0}) Emptied → Type 0
+DoorsLinked ls out out' (Ok _) = LinkingFound ls out'
+DoorsLinked ls out out' (Err _) = NoneFound ls × (out' ≡ out)
 
 -- the output has the last door on each of the first n lists; nobody where a door is its own
 abbrev pub WritesTo : ℕ → List ℕ → List ℕ → Type 0

@@ -1,10 +1,9 @@
 -- Rotations as the two-way linker finds and eliminates them.
-use Rattle.std.specs.Prelude.{◌≡◌, ℕ, ◌+◌, ◌<◌, ◌≤◌, Bool, true, false, ◌⊎◌, List, length, None, ◌≢◌, slice_index, slice_index_or}
-use Rattle.matching.specs.Rotations.{Eliminated}
+use Rattle.std.specs.Prelude.{◌≡◌, ℕ, ◌+◌, ◌<◌, ◌≤◌, Bool, true, false, ◌⊎◌, List, length, None, Ok, Err, Result, ◌≢◌, slice_index, slice_index_or}
+use Rattle.matching.specs.Rotations.{Eliminated, PartMoved}
 use Rattle.matching.specs.TwoWay.{Lowest, second, walk, Outcome}
-use Rattle.matching.proofs.Proposing.{First}
-use Rattle.matching.proofs.Rotating.{PartMoved}
-use Rattle.matching.proofs.Holders.{OnTheWay}
+use Rattle.matching.specs.Holders.{First, OnTheWay}
+use Rattle.linker.specs.declared.marks.Emptied.{Emptied}
 use Rattle.linker.specs.Holders.{ranks, lasts, Remains, Marked, height}
 
 -- one door at most is on the list of x
@@ -78,9 +77,9 @@ Cut ls holder holder' seconds rotation =
     × Eliminated (lasts holder) (second way.1) (λ i. walk way.1 d (from + i)) (lasts holder')
 
 -- whether each door of a rotation has its second on its list
-abbrev pub Keeps : List ℕ → List ℕ → List ℕ → Bool → Type 0
-Keeps rotation seconds keep true = (i : ℕ) → i < length rotation → slice_index seconds (slice_index rotation i) ≤ slice_index keep (slice_index rotation i)
-Keeps rotation seconds keep false = (i : ℕ) × (i < length rotation) × (slice_index keep (slice_index rotation i) < slice_index seconds (slice_index rotation i))
+abbrev pub Keeps : List ℕ → List ℕ → List ℕ → Result (Unit {0}) Emptied → Type 0
+Keeps rotation seconds keep (Ok _) = (i : ℕ) → i < length rotation → slice_index seconds (slice_index rotation i) ≤ slice_index keep (slice_index rotation i)
+Keeps rotation seconds keep (Err _) = (i : ℕ) × (i < length rotation) × (slice_index keep (slice_index rotation i) < slice_index seconds (slice_index rotation i))
 
 -- a table on the way, with one door at most on the lists of the doors below d
 pub record Lowered (ls : List (List ℕ)) (d : ℕ) (holder keep first seconds : List ℕ) : Type 0 where
@@ -90,11 +89,11 @@ pub record Lowered (ls : List (List ℕ)) (d : ℕ) (holder keep first seconds :
   pub single : (x : ℕ) → x < d → Single ls holder x
 
 -- either that, or an elimination emptied a list
-abbrev pub LoweredTo : List (List ℕ) → ℕ → List ℕ → List ℕ → List ℕ → List ℕ → Bool → Type 0
-LoweredTo ls d holder keep first seconds true = Lowered ls d holder keep first seconds
-LoweredTo ls d holder keep first seconds false = Outcome ls None
+abbrev pub LoweredTo : List (List ℕ) → ℕ → List ℕ → List ℕ → List ℕ → List ℕ → Result (Unit {0}) Emptied → Type 0
+LoweredTo ls d holder keep first seconds (Ok _) = Lowered ls d holder keep first seconds
+LoweredTo ls d holder keep first seconds (Err _) = Outcome ls None
 
 -- after the elimination of a rotation there is less to go, or a list was emptied
-abbrev pub Rotated : List (List ℕ) → ℕ → List ℕ → List ℕ → List ℕ → List ℕ → List ℕ → Bool → Type 0
-Rotated ls d holder holder' keep' first' seconds' true = Lowered ls d holder' keep' first' seconds' × (height ls holder' < height ls holder)
-Rotated ls d holder holder' keep' first' seconds' false = Outcome ls None
+abbrev pub Rotated : List (List ℕ) → ℕ → List ℕ → List ℕ → List ℕ → List ℕ → List ℕ → Result (Unit {0}) Emptied → Type 0
+Rotated ls d holder holder' keep' first' seconds' (Ok _) = Lowered ls d holder' keep' first' seconds' × (height ls holder' < height ls holder)
+Rotated ls d holder holder' keep' first' seconds' (Err _) = Outcome ls None

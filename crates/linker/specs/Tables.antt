@@ -1,12 +1,17 @@
 -- How the linkers write lists down in lent memory: in tables of one row for each door, row after row.
-use Rattle.std.specs.Prelude.{◌≡◌, ℕ, ◌+◌, ◌*◌, ◌<◌, List, map, length, take, drop, Some, None, Option, slice_index}
+use Rattle.std.specs.Prelude.{◌≡◌, ℕ, ◌+◌, ◌*◌, ◌<◌, List, map, length, take, drop, Some, None, Option, ◌≢◌, slice_index, slice_index_or}
 use Rattle.std.specs.List.{range_with_len}
-use Rattle.matching.specs.Lists.{row, place}
+use Rattle.matching.specs.Lists.{Lawful, row, place}
 
 -- a place as one number: 65535 stands for a door that is not listed
 abbrev pub mark : Option ℕ → ℕ
 mark None = 65535
 mark (Some p) = p
+
+-- what cell i of lent memory tells: nothing where it has 65535, or where there is no such cell
+abbrev pub Told : List ℕ → ℕ → Option ℕ → Type 0
+Told cells i (Some v) = (v ≡ slice_index_or cells i 65535) × (v ≢ 65535)
+Told cells i None = slice_index_or cells i 65535 ≡ 65535
 
 -- the doors below d are written down: their lists door by door, the place of every door on them, and their sizes
 pub record ReadTo (ls : List (List ℕ)) (d : ℕ) (lists places sizes : List ℕ) : Type 0 where
@@ -30,3 +35,8 @@ table_row n lists sizes x = take (slice_index sizes x) (drop (x * n) lists)
 -- the lists that tables of n doors hold
 unfoldable pub tabled : ℕ → List ℕ → List ℕ → List (List ℕ)
 tabled n lists sizes = map (table_row n lists sizes) (range_with_len 0 n)
+
+-- tables of n doors hold lawful lists, with the right places
+pub record Sound (n : ℕ) (lists places sizes : List ℕ) : Type 0 where
+  pub legal : Lawful (tabled n lists sizes)
+  pub holds : Holds (tabled n lists sizes) lists places sizes

@@ -1,12 +1,10 @@
-// Reading a source's lists into tables, once.
+//! Reading a source's lists into tables, once.
 ghost use Rattle.std.specs.Prelude.{◌≡◌, ◌+◌, ◌*◌, ◌<◌, ◌≤◌, length, take};
 ghost use Rattle.matching.specs.Lists.{row};
 ghost use Rattle.linker.specs.Tables.{Holds, ListRead};
 
+use crate::cells::NONE;
 use sources::Source;
-
-// The mark of a door that is not listed.
-pub(crate) const ABSENT: u16 = 65535;
 
 // Reads the list of door x into the rows that begin at `base`.
 fn read_list<S: Source>(source: &S, x: u8, base: usize, lists: &mut [u16], places: &mut [u16])
@@ -16,6 +14,7 @@ fn read_list<S: Source>(source: &S, x: u8, base: usize, lists: &mut [u16], place
     ensures lists_before { take base lists.new ≡ take base lists.old }
     ensures places_before { take base places.new ≡ take base places.old }
 {
+    // stays: places of lent memory are written where the source's answers say; over the slices it would be two loops
     for y in 0..source.count() {
         match source.place(x, y) {
             Some(at) => {
@@ -23,7 +22,7 @@ fn read_list<S: Source>(source: &S, x: u8, base: usize, lists: &mut [u16], place
                 places[base + y as usize] = at as u16;
             }
             None => {
-                places[base + y as usize] = ABSENT;
+                places[base + y as usize] = NONE;
             }
         }
     }
@@ -42,6 +41,7 @@ pub(crate) fn read_lists<S: Source>(
     ensures { Holds (S.Source.lists source.now) lists.new places.new sizes.new }
 {
     let count = source.count();
+    // stays: a door's number says where its row of two tables begins; zipped with the chunks of both it would be no plainer
     for x in 0..count {
         read_list(source, x, x as usize * count as usize, lists, places);
         sizes[x as usize] = source.length(x) as u16;

@@ -1,43 +1,12 @@
 -- The lists after an edit: a list copied without one door, a list replaced, a door taken off every list.
-use Rattle.std.proofs.Common.{◌≡◌, ℕ, ◌+◌, ◌<◌, ◌≤◌, Bool, true, false, cond, not, ◌&&◌, eqb, ltb, List, [], ◌∷◌, ◌++◌, map, length, get_or, take, set, is_some, Some, None, Option, sym, refl, ap, ◌∙◌, subst, ⊎_elim, arith}
+use Rattle.std.proofs.Common.{◌≡◌, ℕ, ◌+◌, ◌<◌, ◌≤◌, Bool, true, cond, not, ◌&&◌, eqb, ltb, List, [], ◌∷◌, map, length, get_or, set, is_some, Some, None, Option, sym, refl, ap, ◌∙◌, subst, ⊎_elim, arith}
 use Rattle.std.specs.List.{list_all}
-use Rattle.std.proofs.lemmas.List.Elements.{filter_more}
-use Rattle.std.proofs.lemmas.List.{append-nil, append_assoc, take_more_set, length-set, length-map, ext_get_or, get_or-map, get_or-set_same, get_or-set_other, set_past, set-get_or}
-use Rattle.std.proofs.lemmas.Bool.{true≢false, and_parts, and_from, and_left, lt-ltb, le-ltb, eq-eqb, ne_eqb, eqb-false, not-true, not_from_true, not_from_false, cond-true, cond-false, cases_eq, cases_lt}
+use Rattle.std.proofs.lemmas.List.{length-set, length-map, ext_get_or, get_or-map, get_or-set_same, get_or-set_other, set_past}
+use Rattle.std.proofs.lemmas.Bool.{true≢false, and_parts, and_from, and_left, lt-ltb, le-ltb, ne_eqb, eqb-false, not-true, not_from_false, cond-true, cond-false, cases_eq, cases_lt}
 use Rattle.matching.specs.Lists.{row, place, lawful, lawful_list, without, PlaceOf, is_distinct}
 use Rattle.matching.proofs.Rows.{all_pass_at, all_pass_from, lawful_facts, list_from_facts, place_view}
-use Rattle.matching.proofs.Kept.{lawful_kept, all_kept, all_passed, distinct_kept}
+use Rattle.matching.proofs.Kept.{lawful_kept, lawful_short, all_kept, all_passed, distinct_kept}
 use Rattle.lists.specs.Edits.{promoted}
-
--- the first i items without v stand behind the first `start` places of what was there before
-pub record Gathered (v : ℕ) (items before out : List ℕ) (start end i : ℕ) : Type 0 where
-  pub whole : length out ≡ 97
-  pub near : end ≤ start + i
-  pub copied : take end out ≡ take start before ++ without v (take i items)
-
-pub gathered_none : (v : ℕ) (items out : List ℕ) (start : ℕ) → length out ≡ 97 → Gathered v items out out start start 0
-gathered_none v items out start h = record { whole = h; near = omega arith; copied = sym (append-nil (take start out)) }
-
-module _ (v : ℕ) (items before out : List ℕ) (start end i : ℕ) (f : Gathered v items before out start end i) (inside : i < length items) where
-  step : (b : Bool) → not (eqb (get_or items i 0) v) ≡ b → without v (take (i + 1) items) ≡ without v (take i items) ++ cond b (get_or items i 0 ∷ []) []
-  step b e = filter_more (λ y. not (eqb y v)) items i 0 inside ∙ ap (λ t. without v (take i items) ++ cond t (get_or items i 0 ∷ []) []) e
-
-  pub gathered_other : (get_or items i 0 ≡ v → ⊥) → end < 97 → Gathered v items before (set out end (get_or items i 0)) start (end + 1) (i + 1)
-  gathered_other n short = record {
-    whole = length-set out end (get_or items i 0) ∙ f.whole;
-    near = omega (arith, f.near);
-    copied = take_more_set out end (get_or items i 0) (omega (arith, f.whole)) ∙ ap (λ l. l ++ (get_or items i 0 ∷ [])) f.copied
-        ∙ append_assoc (take start before) (without v (take i items)) (get_or items i 0 ∷ [])
-        ∙ ap (λ l. take start before ++ l) (sym (step true (not_from_false (eqb (get_or items i 0) v) (ne_eqb (get_or items i 0) v n))));
-  }
-
-  pub gathered_same : get_or items i 0 ≡ v → Gathered v items before out start end (i + 1)
-  gathered_same e = record {
-    whole = f.whole;
-    near = omega (arith, f.near);
-    copied = f.copied
-        ∙ ap (λ l. take start before ++ l) (sym (step false (not_from_true (eqb (get_or items i 0) v) (eq-eqb (get_or items i 0) v e)) ∙ append-nil (without v (take i items))));
-  }
 
 lawful_row : (ls : List (List ℕ)) (d : ℕ) → lawful ls ≡ true → lawful_list (length ls) d (row ls d) ≡ true
 lawful_row ls d h = list_from_facts (length ls) d (row ls d) ((lawful_facts ls h).each d)
@@ -55,6 +24,10 @@ put_lawful ls ls' d l r law answer after =
 pub lawful_without : (ls : List (List ℕ)) (d v : ℕ) (l : List ℕ) → lawful ls ≡ true → l ≡ without v (row ls d) → lawful_list (length ls) d l ≡ true
 lawful_without ls d v l h e =
     subst (λ k. lawful_list (length ls) d k ≡ true) (sym e) (lawful_kept (length ls) d (λ y. not (eqb y v)) (row ls d) (lawful_row ls d h))
+
+-- such a list has room for one door more
+pub room_without : (ls : List (List ℕ)) (d v : ℕ) (l : List ℕ) → lawful ls ≡ true → d < length ls → l ≡ without v (row ls d) → length l < 96
+room_without ls d v l h i e = omega (arith, lawful_short (length ls) d l (lawful_without ls d v l h e) i, (lawful_facts ls h).few)
 
 -- a listed door moved to the head leaves a lawful list
 lawful_headed : (n d y p : ℕ) (l : List ℕ) → lawful_list n d l ≡ true → place l y ≡ Some p → lawful_list n d (y ∷ without y l) ≡ true
@@ -82,11 +55,6 @@ pub put_headed : (ls ls' : List (List ℕ)) (d y : ℕ) (l : List ℕ) (o : Opti
 put_headed ls ls' d y l o r h e some is answer after =
     put_lawful ls ls' d l r (listed_headed ls d y l o h (sym e) some is) answer after
     ∙ ap (set ls d) (is ∙ sym (cond-true (is_some (place (row ls d) y)) (y ∷ without y (row ls d)) (row ls d) (ap is_some (sym e) ∙ some)))
-
--- and where it is not listed nothing changes
-pub not_headed : (ls : List (List ℕ)) (d y : ℕ) (o : Option ℕ) → o ≡ place (row ls d) y → is_some o ≡ false → ls ≡ promoted d y ls
-not_headed ls d y o e none =
-    sym (ap (set ls d) (cond-false (is_some (place (row ls d) y)) (y ∷ without y (row ls d)) (row ls d) (ap is_some (sym e) ∙ none)) ∙ set-get_or ls d [])
 
 -- door v is off the lists of the doors below k
 pub record TakenOff (v : ℕ) (ls rows : List (List ℕ)) (k : ℕ) : Type 0 where

@@ -1,24 +1,19 @@
 -- A row is filled door by door: what the list so far, its places and its lawfulness are after one door more.
-use Rattle.std.proofs.Common.{◌≡◌, ℕ, ◌+◌, ◌<◌, ◌≤◌, Bool, true, false, List, [], ◌∷◌, ◌++◌, length, get_or, take, set, replicate, Some, None, Option, sym, refl, ap, ◌∙◌, subst, ⊎_elim, arith}
-use Rattle.std.proofs.lemmas.List.{take_more, take_more_set, length_push, get_or_push, get_or_append_left, get_or-take, length-take-le, get_or-set_same, get_or-set_other, length-set, get_or-replicate, take_all}
-use Rattle.std.proofs.lemmas.Bool.{cases_eq, cases_lt}
+use Rattle.std.proofs.Common.{◌≡◌, ℕ, ◌+◌, ◌<◌, ◌≤◌, true, false, List, [], ◌∷◌, ◌++◌, length, get_or, take, set, replicate, is_some, Some, None, Option, sym, refl, ap, ◌∙◌, subst, true≢false, ⊎_elim, arith}
+use Rattle.std.proofs.lemmas.List.{take_more, length_push, get_or_push, get_or_append_left, get_or-take, length-take-le, get_or-set_same, get_or-set_other, length-set, get_or-replicate}
+use Rattle.std.proofs.lemmas.Bool.{false_from_ne_true, cases_eq, cases_lt}
 use Rattle.matching.specs.Lists.{place, lawful_list, PlaceOf}
+use Rattle.matching.proofs.Kept.{lawful_at_most}
 use Rattle.matching.proofs.Rows.{list_facts, list_from_facts, place_view, place_from, nil_lawful}
-use Rattle.lists.specs.Marks.{mark}
 
--- a test that cannot be true is false
-pub false_from : (b : Bool) → (b ≡ true → ⊥) → b ≡ false
-false_from true h = absurd (h refl)
-false_from false h = refl
+-- what the test for a place says
+absent : (o : Option ℕ) → is_some o ≡ false → o ≡ None
+absent None e = refl
+absent (Some p) e = absurd (true≢false e)
 
--- a place stands below the length, so its mark is 255 exactly for what is not listed
-pub mark_absent : (l : List ℕ) (y : ℕ) (o : Option ℕ) → length l ≤ 96 → PlaceOf l y o → mark o ≡ 255 → o ≡ None
-mark_absent l y None s v e = refl
-mark_absent l y (Some p) s v e = absurd (omega (arith, v.0, e))
-
-pub mark_listed : (l : List ℕ) (y : ℕ) (o : Option ℕ) → PlaceOf l y o → (mark o ≡ 255 → ⊥) → o ≡ Some (mark o)
-mark_listed l y None v n = absurd (n refl)
-mark_listed l y (Some p) v n = refl
+present : (o : Option ℕ) → is_some o ≡ true → (p : ℕ) × (o ≡ Some p)
+present None e = absurd (true≢false (sym e))
+present (Some p) e = (p, refl)
 
 -- one door more at the end
 pub place_push_same : (l : List ℕ) (y : ℕ) → place l y ≡ None → place (l ++ (y ∷ [])) y ≡ Some (length l)
@@ -63,82 +58,56 @@ lawful_push n d l y h below other e =
           (cases_lt j (length l));
     })
 
--- the state of the filling: the first i doors of the list stand in the row, with their places
-pub record Filled (n d : ℕ) (list items places : List ℕ) (i : ℕ) : Type 0 where
-  pub whole : length items ≡ 96
+-- a list of more than 96 doors is not lawful
+pub too_long : (n d : ℕ) (list : List ℕ) → 96 < length list → n ≤ 96 → lawful_list n d list ≡ false
+too_long n d list long few = false_from_ne_true (lawful_list n d list) (λ h. omega (arith, lawful_at_most n d list h))
+
+-- the first i doors of the list are lawful, and stand at their places
+pub record Filled (n d : ℕ) (list : List ℕ) (places : List (Option ℕ)) (i : ℕ) : Type 0 where
   pub all : length places ≡ 96
-  pub copied : take i items ≡ take i list
   pub legal : lawful_list n d (take i list) ≡ true
-  pub right : (y : ℕ) → y < 96 → get_or places y 0 ≡ mark (place (take i list) y)
+  pub right : (y : ℕ) → y < 96 → get_or places y None ≡ place (take i list) y
 
-empty_right : (y : ℕ) → y < 96 → get_or (replicate 96 255) y 0 ≡ mark (place [] y)
+pub empty_right : (y : ℕ) → y < 96 → get_or (replicate 96 None) y None ≡ place [] y
 unfolding place
-empty_right y h = get_or-replicate 96 y 255 0 h
+empty_right y h = get_or-replicate 96 y None None h
 
-pub row_none : (items : List ℕ) (y : ℕ) → y < 96 → get_or (replicate 96 255) y 0 ≡ mark (place (take 0 items) y)
-row_none items y h = empty_right y h
+pub filled_none : (n d : ℕ) (list : List ℕ) → Filled n d list (replicate 96 None) 0
+filled_none n d list = record { all = refl; legal = list_from_facts n d [] (nil_lawful n d); right = empty_right }
 
-pub filled_none : (n d : ℕ) (list : List ℕ) → Filled n d list (replicate 96 0) (replicate 96 255) 0
-filled_none n d list = record {
-  whole = refl;
-  all = refl;
-  copied = refl;
-  legal = list_from_facts n d [] (nil_lawful n d);
-  right = empty_right;
-}
-
-module _ (n d : ℕ) (list items places : List ℕ) (i : ℕ) (f : Filled n d list items places i) (inside : i < length list) (short : length list ≤ 96) where
+module _ (n d : ℕ) (list : List ℕ) (places : List (Option ℕ)) (i : ℕ) (f : Filled n d list places i) (inside : i < length list) (short : length list ≤ 96) where
   so_far : length (take i list) ≡ i
   so_far = length-take-le i list (omega arith)
 
-  pub more : get_or list i 0 < n → n ≤ 96 → (get_or list i 0 ≡ d → ⊥) → get_or places (get_or list i 0) 0 ≡ 255
-      → Filled n d list (set items i (get_or list i 0)) (set places (get_or list i 0) i) (i + 1)
-  more below few other absent =
+  pub more : get_or list i 0 < n → n ≤ 96 → (get_or list i 0 ≡ d → ⊥) → is_some (get_or places (get_or list i 0) None) ≡ false
+      → Filled n d list (set places (get_or list i 0) (Some i)) (i + 1)
+  more below few other free =
       let y : ℕ = get_or list i 0 in
-      let none : place (take i list) y ≡ None = mark_absent (take i list) y (place (take i list) y) (omega (arith, so_far)) (place_view (take i list) y) (sym (f.right y (omega arith)) ∙ absent) in
+      let none : place (take i list) y ≡ None = sym (f.right y (omega arith)) ∙ absent (get_or places y None) free in
       let step : take (i + 1) list ≡ take i list ++ (y ∷ []) = take_more list i 0 inside in
       record {
-        whole = length-set items i y ∙ f.whole;
-        all = length-set places y i ∙ f.all;
-        copied = take_more_set items i y (omega (arith, f.whole)) ∙ ap (λ l. l ++ (y ∷ [])) f.copied ∙ sym step;
+        all = length-set places y (Some i) ∙ f.all;
         legal = subst (λ l. lawful_list n d l ≡ true) (sym step) (lawful_push n d (take i list) y f.legal below other none);
-        right = λ z h. subst (λ l. get_or (set places y i) z 0 ≡ mark (place l z)) (sym step)
+        right = λ z h. subst (λ l. get_or (set places y (Some i)) z None ≡ place l z) (sym step)
             (⊎_elim
-            (λ (e : z ≡ y). subst (λ w. get_or (set places y i) w 0 ≡ mark (place (take i list ++ (y ∷ [])) w)) (sym e)
-            (get_or-set_same places y i 0 (omega (arith, f.all)) ∙ sym (ap mark (place_push_same (take i list) y none) ∙ so_far)))
-            (λ e. get_or-set_other places y z i 0 e ∙ f.right z h ∙ sym (ap mark (place_push_other (take i list) y z e)))
+            (λ (e : z ≡ y). subst (λ w. get_or (set places y (Some i)) w None ≡ place (take i list ++ (y ∷ [])) w) (sym e)
+            (get_or-set_same places y (Some i) None (omega (arith, f.all)) ∙ sym (place_push_same (take i list) y none ∙ ap Some so_far)))
+            (λ e. get_or-set_other places y z (Some i) None e ∙ f.right z h ∙ sym (place_push_other (take i list) y z e))
             (cases_eq z y));
       }
 
   -- a door that is listed already spoils the list
-  pub repeated : get_or list i 0 < 96 → (get_or places (get_or list i 0) 0 ≡ 255 → ⊥) → lawful_list n d list ≡ false
-  repeated small listed =
+  pub repeated : get_or list i 0 < 96 → is_some (get_or places (get_or list i 0) None) ≡ true → lawful_list n d list ≡ false
+  repeated small taken =
       let y : ℕ = get_or list i 0 in
-      let here : place (take i list) y ≡ Some (mark (place (take i list) y)) = mark_listed (take i list) y (place (take i list) y) (place_view (take i list) y) (λ e. listed (f.right y small ∙ e)) in
-      let v : PlaceOf (take i list) y (Some (mark (place (take i list) y))) = subst (PlaceOf (take i list) y) here (place_view (take i list) y) in
-      let p : ℕ = mark (place (take i list) y) in
-      let early : p < i = omega (arith, v.0, so_far) in
-      false_from (lawful_list n d list) (λ h. omega (arith, (list_facts n d list h).apart p i (omega arith) inside (sym (get_or-take i list p 0 early) ∙ v.1)))
+      let there = present (get_or places y None) taken in
+      let v : PlaceOf (take i list) y (Some there.0) = subst (PlaceOf (take i list) y) (sym (f.right y small) ∙ there.1) (place_view (take i list) y) in
+      let early : there.0 < i = omega (arith, v.0, so_far) in
+      false_from_ne_true (lawful_list n d list) (λ h. omega (arith, (list_facts n d list h).apart there.0 i (omega arith) inside (sym (get_or-take i list there.0 0 early) ∙ v.1)))
 
 -- so does a door that is not one of the level, or the owner
 pub unknown : (n d : ℕ) (list : List ℕ) (i : ℕ) → i < length list → n ≤ get_or list i 0 → lawful_list n d list ≡ false
-unknown n d list i h e = false_from (lawful_list n d list) (λ t. omega (arith, (list_facts n d list t).known i h))
+unknown n d list i h e = false_from_ne_true (lawful_list n d list) (λ t. omega (arith, (list_facts n d list t).known i h))
 
 pub owner : (n d : ℕ) (list : List ℕ) (i : ℕ) → i < length list → get_or list i 0 ≡ d → lawful_list n d list ≡ false
-owner n d list i h e = false_from (lawful_list n d list) (λ t. (list_facts n d list t).others i h e)
-
--- the whole list stands in the row
-pub record Copied (n d : ℕ) (list items places : List ℕ) : Type 0 where
-  pub legal : lawful_list n d list ≡ true
-  pub same : take (length list) items ≡ list
-  pub right : (y : ℕ) → y < 96 → get_or places y 0 ≡ mark (place (take (length list) items) y)
-
-pub filled_all : (n d : ℕ) (list items places : List ℕ) (i : ℕ) → Filled n d list items places i → length list ≤ i → i ≤ length list → Copied n d list items places
-filled_all n d list items places i f h g =
-    let e = take_all i list h in
-    let same : take (length list) items ≡ list = subst (λ k. take k items ≡ list) (omega arith) (f.copied ∙ e) in
-    record {
-      legal = subst (λ l. lawful_list n d l ≡ true) e f.legal;
-      same = same;
-      right = λ y b. f.right y b ∙ ap (λ l. mark (place l y)) (e ∙ sym same);
-    }
+owner n d list i h e = false_from_ne_true (lawful_list n d list) (λ t. (list_facts n d list t).others i h e)

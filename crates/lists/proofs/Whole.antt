@@ -1,12 +1,12 @@
 -- The lists of a table: one door's list, and the table after one list is replaced.
 use Rattle.std.proofs.Common.{◌≡◌, ℕ, zero, suc, ◌<◌, ◌≤◌, true, List, [], ◌∷◌, map, length, get_or, take, set, replicate, None, sym, refl, ap, ◌∙◌, subst, ⊎_elim, arith}
-use Rattle.std.proofs.lemmas.List.{length-map, length-take, length-take-le, get_or-take, get_or-map, get_or_past, get_or-set_same, get_or-set_other, length-set, map-set, get_or-replicate, length-replicate, same_lists, take-replicate}
+use Rattle.std.proofs.lemmas.List.{length-map, length-take, length-take-le, get_or-take, get_or-map, get_or_past, get_or-set_same, get_or-set_other, length-set, map-set, get_or-replicate, length-replicate, same_lists}
 use Rattle.std.proofs.lemmas.Bool.{cases_eq, cases_lt}
 use Rattle.matching.specs.Lists.{place, row, lawful, lawful_list, LawfulList}
 use Rattle.matching.proofs.Rows.{list_facts, lawful_facts, lawful_from_facts, place_from, nil_lawful}
 
 -- the lawful lists after one list is replaced by a lawful one
-pub lawful_set : (ls : List (List ℕ)) (d : ℕ) (l : List ℕ) → lawful ls ≡ true → d < length ls → lawful_list (length ls) d l ≡ true → lawful (set ls d l) ≡ true
+lawful_set : (ls : List (List ℕ)) (d : ℕ) (l : List ℕ) → lawful ls ≡ true → d < length ls → lawful_list (length ls) d l ≡ true → lawful (set ls d l) ≡ true
 lawful_set ls d l h i g =
     let f = lawful_facts ls h in
     let n : length (set ls d l) ≡ length ls = length-set ls d l in
@@ -56,13 +56,16 @@ module _ {X : Type 0} (f : X → List ℕ) (xs : List X) (n : ℕ) (long : n ≤
       (λ q. get_or-set_other (map f xs) d k (f x) e q ∙ sym (get_or-set_other (take n (map f xs)) d k (f x) e q ∙ get_or-take n (map f xs) k e short))
       (cases_eq k d))
 
--- rows that are all empty
-map_replicate : {X : Type 0} (f : X → List ℕ) (x : X) (n : ℕ) → map f (replicate n x) ≡ replicate n (f x)
-map_replicate f x zero = refl
-map_replicate f x (suc n) = ap (λ l. f x ∷ l) (map_replicate f x n)
+  pub rows_lawful : (d : ℕ) (x : X) → lawful (take n (map f xs)) ≡ true → d < n → lawful_list n d (f x) ≡ true → lawful (take n (map f (set xs d x))) ≡ true
+  rows_lawful d x h i g =
+      rw (rows_set d x i) (lawful_set (take n (map f xs)) d (f x) h (omega (arith, rows_length)) (rw rows_length g))
 
-pub rows_empty : {X : Type 0} (f : X → List ℕ) (x : X) (m n : ℕ) → f x ≡ [] → n ≤ m → take n (map f (replicate m x)) ≡ replicate n []
-rows_empty f x m n e h = ap (take n) (map_replicate f x m ∙ ap (replicate m) e) ∙ take-replicate n m [] h
+-- rows that are all empty
+pub rows_empty : {X : Type 0} (f : X → List ℕ) (xs : List X) (n : ℕ) → n ≤ length xs → ((i : ℕ) (e : X) → i < length xs → f (get_or xs i e) ≡ []) → take n (map f xs) ≡ replicate n []
+rows_empty f xs zero h each = refl
+rows_empty f [] (suc n) h each = absurd (omega arith)
+rows_empty f (x ∷ xs) (suc n) h each =
+    ap (λ l. l ∷ take n (map f xs)) (each 0 x (omega arith)) ∙ ap (λ l. [] ∷ l) (rows_empty f xs n (omega arith) (λ i e b. each (suc i) e (omega arith)))
 
 -- a number past the last door has the empty list
 pub row_past : (ls : List (List ℕ)) (x : ℕ) → length ls ≤ x → row ls x ≡ []

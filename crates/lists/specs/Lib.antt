@@ -1,4 +1,3 @@
 pub mod Edits
-pub mod Marks
 pub mod Rows
 pub mod Tables

@@ -5,12 +5,13 @@ use Rattle.std.proofs.lemmas.List.FromFn.{get_or-map-range_with_len, length-map-
 use Rattle.std.proofs.lemmas.List.{get_or_past}
 use Rattle.std.proofs.ByRecursion.{All-from_get_or, all_kept_by}
 use Rattle.std.proofs.lemmas.Bool.{and_parts, and_from, cases_eq, cases_lt, cases_Bool, cases_order, both_ways, or_cases, or_left, or_right, cond-true, cond-false, eq-eqb, ne_eqb}
-use Rattle.matching.specs.Lists.{row, place, Lawful, is_distinct}
+use Rattle.matching.specs.Lists.{row, place, Lawful, is_distinct, rank}
 use Rattle.matching.specs.Ranks.{Ranks, Links, Unblocked}
 use Rattle.matching.specs.Linkings.{unlinked, listed, accept, exit, entrance, counts_one_way, partner, Linking, Prefers, Tempted, BlockingPair, Stable}
 use Rattle.matching.specs.Proposals.{trimmed}
+use Rattle.matching.specs.Holders.{Writes, row_rank}
 use Rattle.matching.proofs.Rows.{distinct_from}
-use Rattle.matching.proofs.Positions.{rank, rank_cases, rank_some, rank_place, rank_here, rank_at, kept_distinct, short_distinct, kept_order, kept_in, kept_out}
+use Rattle.matching.proofs.Positions.{rank_cases, rank_some, rank_place, rank_here, rank_at, kept_distinct, short_distinct, kept_order, kept_in, kept_out}
 use Rattle.matching.proofs.Proposing.{at_most}
 
 -- a test of pairs fits the lists: the doors that it lets be linked accept each other, whichever is named first
@@ -71,10 +72,6 @@ one_way_pairing ls sides =
 -- ranks by places on the trimmed lists
 unfoldable pub trim_rank : List (List ℕ) → (ℕ → ℕ → Bool) → ℕ → ℕ → ℕ
 trim_rank ls pairs x y = rank (trimmed ls pairs x) y
-
--- ranks by places on the lists as they are
-unfoldable pub row_rank : List (List ℕ) → (ℕ → ℕ → Bool) → ℕ → ℕ → ℕ
-row_rank ls pairs x y = cond (pairs x y) (rank (row ls x) y) (length (row ls x))
 
 module _ (ls : List (List ℕ)) (pairs : ℕ → ℕ → Bool) (f : Lawful ls) (p : Pairing ls pairs) where
   -- each door of a pair is on the other's list
@@ -213,10 +210,6 @@ entry_other g x n = cond-false (eqb (g x) x) unlinked (g x) (ne_eqb (g x) x n)
 
 unfoldable pub written : ℕ → (ℕ → ℕ) → List ℕ
 written n g = map (entry g) (range_with_len 0 n)
-
--- the list m writes down the function g: a door's entry is its partner, or `unlinked` where it is its own
-abbrev pub Writes : (ℕ → ℕ) → List ℕ → Type 0
-Writes g m = (x : ℕ) → ((g x ≡ x) × (partner m x ≡ unlinked)) ⊎ ((g x ≡ x → ⊥) × (partner m x ≡ g x) × (g x ≡ unlinked → ⊥))
 
 module _ (ls : List (List ℕ)) (pairs : ℕ → ℕ → Bool) (r : ℕ → ℕ → ℕ) (f : Lawful ls) (p : Pairing ls pairs) (o : Ranking ls pairs r) where
   -- a linking is written down

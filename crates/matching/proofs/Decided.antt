@@ -4,9 +4,10 @@ use Rattle.std.proofs.lemmas.Bool.{cases_lt}
 use Rattle.matching.specs.Lists.{Lawful}
 use Rattle.matching.specs.Ranks.{Links, Blocked}
 use Rattle.matching.specs.Linkings.{Linking, BlockingPair, Stable}
+use Rattle.matching.specs.Holders.{row_rank, Writes}
 use Rattle.matching.proofs.Proposing.{at_most}
 use Rattle.matching.proofs.Search.{all_or_some}
-use Rattle.matching.proofs.Bridge.{Pairing, Ranking, row_rank, row_ranking, near_pair, pair_door, link_of, Writes, linking_writes, writes_links, writes_stable, writes_blocking}
+use Rattle.matching.proofs.Bridge.{Pairing, Ranking, row_ranking, near_pair, pair_door, link_of, linking_writes, writes_links, writes_stable, writes_blocking}
 
 pub stable_or_blocked : (ls : List (List ℕ)) (pairs : ℕ → ℕ → Bool) (m : List ℕ) → Lawful ls → Pairing ls pairs → Linking ls pairs m →
     Stable ls pairs m ⊎ ((x : ℕ) × (y : ℕ) × BlockingPair ls pairs m x y)

@@ -5,12 +5,13 @@ use Rattle.std.proofs.lemmas.List.FromFn.{fill_by_all}
 use Rattle.std.proofs.lemmas.List.{get_or_past, ext_get_or}
 use Rattle.std.proofs.lemmas.List.Sums.{sum-map}
 use Rattle.std.proofs.lemmas.Bool.{cases_eq, cases_lt, cases_Bool, cond-true, cond-false}
-use Rattle.matching.specs.Lists.{Lawful}
+use Rattle.matching.specs.Lists.{Lawful, rank}
 use Rattle.matching.specs.Ranks.{Links, Unblocked}
 use Rattle.matching.specs.Linkings.{unlinked, exit, counts_one_way, partner, Linking, Prefers, Stable}
 use Rattle.matching.specs.Proposals.{trimmed, up_to, asks_of, proposals, BestForExits, Asking, Finished, ResultOf, EndsIn, OneWayResult}
-use Rattle.matching.proofs.Positions.{rank, rank_cases, rank_place}
-use Rattle.matching.proofs.Bridge.{trim_rank, trim_end, less_prefers, link_of, link_none, link_some, Writes, linking_writes, linking_links, stable_unblocked, links_writes, writes_stable}
+use Rattle.matching.specs.Holders.{Writes}
+use Rattle.matching.proofs.Positions.{rank_cases, rank_place}
+use Rattle.matching.proofs.Bridge.{trim_rank, trim_end, less_prefers, link_of, link_none, link_some, linking_writes, linking_links, stable_unblocked, links_writes, writes_stable}
 use Rattle.matching.proofs.Proposing.{at_most}
 use Rattle.matching.proofs.Pointers.{Loose, Outcome, outcome_links, outcome_count, outcome_unblocked, outcome_best, best_same}
 use Rattle.matching.proofs.Runs.{ranks, asks, holds, Under, fits, follows, lawful_ranks, lawful_sided, near_counts, counts_door, no_list, run_under}

@@ -5,32 +5,23 @@ use Rattle.std.specs.List.{range_with_len}
 use Rattle.std.proofs.lemmas.List.FromFn.{length-map-range_with_len, get_or-map-range_with_len}
 use Rattle.std.proofs.lemmas.List.{get_or_past, get_or-set_same, get_or-set_other, length-set, length-replicate, get_or-replicate}
 use Rattle.std.proofs.lemmas.Bool.{cases_eq, cases_lt}
-use Rattle.matching.specs.Lists.{row, Lawful, is_distinct}
+use Rattle.matching.specs.Lists.{row, Lawful, is_distinct, rank}
 use Rattle.matching.specs.Linkings.{unlinked, accept, partner, Prefers}
 use Rattle.matching.specs.Proposals.{trimmed}
 use Rattle.matching.specs.Ranks.{Ranks, Links, Unblocked, On, Within}
 use Rattle.matching.specs.Settled.{Settled}
 use Rattle.matching.specs.TwoWay.{Parted, Trimmed, Proposes, Leads, Finish}
+use Rattle.matching.specs.Holders.{Writes, First, Holding, Ended, total, anyone, In, Rises, RowOf, TableOf, first, Stands}
 use Rattle.matching.proofs.Rows.{distinct_from}
-use Rattle.matching.proofs.Positions.{rank, rank_cases, rank_here, rank_absent, kept_distinct, rank_at}
-use Rattle.matching.proofs.Bridge.{Ranking, accept_pairing, trim_rank, trim_end, trim_ranking, ranking_ranks, near_pair, less_prefers, pair_door, Writes}
-use Rattle.matching.proofs.Proposing.{First, Holding, Asked, Ended, at_most, asked_less, asked_within, on_sym, asked_holding, holding_most, ended_within, ended_same}
+use Rattle.matching.proofs.Positions.{rank_cases, rank_here, rank_absent, kept_distinct, rank_at}
+use Rattle.matching.proofs.Bridge.{Ranking, accept_pairing, trim_rank, trim_end, trim_ranking, ranking_ranks, near_pair, less_prefers, pair_door}
+use Rattle.matching.proofs.Proposing.{Asked, at_most, asked_less, asked_within, on_sym, asked_holding, holding_most, ended_within, ended_same}
 use Rattle.matching.proofs.Pointers.{Loose}
-use Rattle.matching.proofs.Search.{all_or_some, total, total_falls}
-use Rattle.matching.proofs.Settled.{anyone, settled_at_end}
+use Rattle.matching.proofs.Search.{all_or_some, total_falls}
+use Rattle.matching.proofs.Settled.{settled_at_end}
 use Rattle.matching.proofs.Rotating.{moved}
-use Rattle.matching.proofs.Tables.{In, Rises, in_at, at_in, rises_from, RowOf, TableOf, row_first, row_head, row_empty, table_one, first, prefers_less, parted_table, parted_made, rows_firsts}
+use Rattle.matching.proofs.Tables.{in_at, at_in, rises_from, row_first, row_head, row_empty, table_one, prefers_less, parted_table, parted_made, rows_firsts}
 use Rattle.matching.proofs.Tables
-
--- the holders g of a table T with the proposals held: the rows are those of g, and g has room for every stable linking and for every table in which proposals have ended
-pub record Stands (ls : List (List ℕ)) (r : ℕ → ℕ → ℕ) (T : List (List ℕ)) (held : List ℕ) (g : ℕ → ℕ) : Type 0 where
-  pub rows : TableOf r g T
-  pub size : length T ≡ length ls
-  pub writes : Writes g held
-  pub long : length held ≡ length ls
-  pub holding : Holding r g
-  pub room : (m : ℕ → ℕ) → Links r m → Unblocked r m → Within r g m
-  pub above : (e : ℕ → ℕ) → Holding r e → Ended r anyone e → (x : ℕ) → r x (e x) ≤ r x (g x)
 
 -- a list of no doors
 pub nil_from : (l : List ℕ) → length l ≤ 0 → l ≡ []

@@ -9,22 +9,14 @@ use Rattle.matching.specs.Ranks.{Ranks}
 use Rattle.matching.specs.Rotations.{Rotation, Eliminated, Walk}
 use Rattle.matching.specs.Settled.{Firsts, Settled, Second}
 use Rattle.matching.specs.TwoWay.{Leads, Reduces, Lowest, second, walk, Outcome}
-use Rattle.matching.proofs.Bridge.{Ranking, Writes}
-use Rattle.matching.proofs.Proposing.{Holding, Asked, Ended}
-use Rattle.matching.proofs.Search.{total}
-use Rattle.matching.proofs.Settled.{anyone, ended_from, loose_from, firsts_same, second_one, second_two}
+use Rattle.matching.specs.Holders.{Writes, Holding, Ended, total, anyone, first, Stands, Reduced, Underway, OnTheWay}
+use Rattle.matching.proofs.Bridge.{Ranking}
+use Rattle.matching.proofs.Proposing.{Asked}
+use Rattle.matching.proofs.Settled.{ended_from, loose_from, firsts_same, second_one, second_two}
 use Rattle.matching.proofs.Rotating.{walk_rotation}
-use Rattle.matching.proofs.Tables.{first, row_second, row_last, row_first, one_same, two_apart, row_unlisted}
-use Rattle.matching.proofs.Finishing.{Stands, two_way_ranks, start, start_trimmed, stands_start, stands_next, proposal_made, proposal_falls, finish_settled, nil_from}
-use Rattle.matching.proofs.Reducing.{Reduced, eliminated_made, reduced_next, empties_none, empties_some}
-
--- g are the holders after some proposals
-abbrev pub Underway : List (List ℕ) → (ℕ → ℕ → ℕ) → (ℕ → ℕ) → Type 0
-Underway ls r g = (j : ℕ) × (T : List (List ℕ)) × (held : List ℕ) × Leads ls j T held × Stands ls r T held g
-
--- g are the last doors of a table after the proposals and some eliminations
-abbrev pub OnTheWay : List (List ℕ) → (ℕ → ℕ → ℕ) → (ℕ → ℕ) → Type 0
-OnTheWay ls r g = (j : ℕ) × (T : List (List ℕ)) × Reduces ls j T × Reduced ls r T g
+use Rattle.matching.proofs.Tables.{row_second, row_last, row_first, one_same, two_apart, row_unlisted}
+use Rattle.matching.proofs.Finishing.{two_way_ranks, start, start_trimmed, stands_start, stands_next, proposal_made, proposal_falls, finish_settled, nil_from}
+use Rattle.matching.proofs.Reducing.{eliminated_made, reduced_next, empties_none, empties_some}
 
 module _ (ls : List (List ℕ)) (h : Lawful ls) (r : ℕ → ℕ → ℕ) (o : Ranking ls (accept ls) r) where
   k : Ranks r

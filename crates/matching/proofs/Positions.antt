@@ -4,11 +4,8 @@ use Rattle.std.specs.Option.{option_map}
 use Rattle.std.specs.List.{list_all, AllByRecursion}
 use Rattle.std.proofs.ByRecursion.{All-get_or, All-from_get_or, all_kept_by, kept_by_passes}
 use Rattle.std.proofs.lemmas.Bool.{and_parts, and_from, eqb-false, ne_eqb, eq-eqb, cases_eq, cases_lt, cases_Bool, not_from_true, not_from_false, not-true}
-use Rattle.matching.specs.Lists.{place, PlaceOf, is_distinct}
+use Rattle.matching.specs.Lists.{place, PlaceOf, is_distinct, rank}
 use Rattle.matching.proofs.Rows.{place_view, distinct_at}
-
-unfoldable pub rank : List ℕ → ℕ → ℕ
-rank l y = unwrap_or (place l y) (length l)
 
 -- a rank by cases of the place
 abbrev pub RankOf : List ℕ → ℕ → Option ℕ → Type 0

@@ -2,24 +2,13 @@
 use Rattle.std.proofs.Common.{◌≡◌, ℕ, ◌<◌, ◌≤◌, Bool, true, ◌⊎◌, sym, ap, ◌∙◌, subst, inl, inr, ⊎_elim, arith}
 use Rattle.std.proofs.lemmas.Bool.{cases_eq, cases_lt}
 use Rattle.matching.specs.Ranks.{Ranks, Links, Unblocked, On, Within}
-
--- y is the first door on x's list in the table of the holders g
-abbrev pub First : (ℕ → ℕ → ℕ) → (ℕ → ℕ) → ℕ → ℕ → Type 0
-First r g x y = On r g x y × ((z : ℕ) → On r g x z → r x y ≤ r x z)
-
--- every door holds nobody, or a door that has it first
-abbrev pub Holding : (ℕ → ℕ → ℕ) → (ℕ → ℕ) → Type 0
-Holding r g = (y : ℕ) → (g y ≡ y) ⊎ First r g (g y) y
+use Rattle.matching.specs.Holders.{First, Holding, Ended}
 
 -- z proposes to the first door q on its list: q holds z, all else stays
 pub record Asked (r : ℕ → ℕ → ℕ) (g : ℕ → ℕ) (z q : ℕ) (g' : ℕ → ℕ) : Type 0 where
   pub first : First r g z q
   pub taken : g' q ≡ z
   pub rest : (y : ℕ) → (y ≡ q → ⊥) → g' y ≡ g y
-
--- proposals of the doors that may propose have ended: such a door with a door on its list is held by somebody
-abbrev pub Ended : (ℕ → ℕ → ℕ) → (ℕ → Bool) → (ℕ → ℕ) → Type 0
-Ended r p g = (x y : ℕ) → p x ≡ true → On r g x y → (q : ℕ) × (g q ≡ x) × (q ≡ x → ⊥)
 
 -- what a linking gives a door it accepts, or it is the door itself
 pub at_most : (r : ℕ → ℕ → ℕ) (m : ℕ → ℕ) → Links r m → (x : ℕ) → r x (m x) ≤ r x x

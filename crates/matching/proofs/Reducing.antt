@@ -11,20 +11,14 @@ use Rattle.matching.specs.Ranks.{Ranks, Links, Unblocked, On}
 use Rattle.matching.specs.Rotations.{Rotation, Eliminated, Walk, ComesAgain}
 use Rattle.matching.specs.Settled.{Settled, Second, StableWithin}
 use Rattle.matching.specs.TwoWay.{Parted, Finish, second, Lowest, walk, Eliminates, Empties, Reduces, LinksRows, Outcome}
-use Rattle.matching.proofs.Bridge.{Ranking, Writes}
+use Rattle.matching.specs.Holders.{Writes, total, TableOf, first, Reduced}
+use Rattle.matching.proofs.Bridge.{Ranking}
 use Rattle.matching.proofs.Proposing.{on_sym}
-use Rattle.matching.proofs.Search.{Repeat, all_or_some, none_or_least, total}
+use Rattle.matching.proofs.Search.{Repeat, all_or_some, none_or_least}
 use Rattle.matching.proofs.Settled.{first_on, firsts_same, single_links, single_stable}
 use Rattle.matching.proofs.Rotating.{round_again, again_round, walk_seconds, walk_returns, walk_rotation, advanced, eliminated, shorter, some_stays, none_if_emptied, emptied, settled_again, listed_again, elimination_falls}
-use Rattle.matching.proofs.Tables.{TableOf, row_first, row_empty, empty_row, first, prefers_less, less_prefers, rows_firsts, rows_seconds, row_last, row_listed, row_unlisted, two_apart, one_same, parted_table, parted_made, parted_one}
+use Rattle.matching.proofs.Tables.{row_first, row_empty, empty_row, prefers_less, less_prefers, rows_firsts, rows_seconds, row_last, row_listed, row_unlisted, two_apart, one_same, parted_table, parted_made, parted_one}
 use Rattle.matching.proofs.Finishing.{two_way_ranks, near_small, past_first, finish_stands, finish_settled, finish_one, finishes, nil_from}
-
--- a table on the way, by its holders: it is settled, and if a linking is stable, one within the table is
-pub record Reduced (ls : List (List ℕ)) (r : ℕ → ℕ → ℕ) (T : List (List ℕ)) (g : ℕ → ℕ) : Type 0 where
-  pub rows : TableOf r g T
-  pub size : length T ≡ length ls
-  pub settled : Settled r g (first T)
-  pub room : (m : ℕ → ℕ) → Links r m → Unblocked r m → (t : ℕ → ℕ) × StableWithin r g t
 
 -- u and v part when the rotation from d is eliminated
 abbrev pub Parts : List (List ℕ) → ℕ → ℕ → ℕ → Type 0

@@ -3,9 +3,10 @@ use Rattle.std.proofs.Common.{◌≡◌, ℕ, zero, suc, ◌+◌, ◌-◌, ◌*�
 use Rattle.std.proofs.lemmas.Bool.{cases_eq, cases_lt}
 use Rattle.matching.specs.Ranks.{Ranks, Links, Unblocked, On, Within}
 use Rattle.matching.specs.Settled.{Settled, Second, StableWithin, Empty}
-use Rattle.matching.specs.Rotations.{Moved, Rotation, Eliminated, Advanced, Walk, ComesAgain, Seconds}
+use Rattle.matching.specs.Rotations.{Moved, Rotation, Eliminated, Advanced, Walk, ComesAgain, Seconds, PartMoved}
+use Rattle.matching.specs.Holders.{total}
 use Rattle.matching.proofs.Proposing.{on_sym, on_kept}
-use Rattle.matching.proofs.Search.{all_or_some, Repeat, walk_repeats, total, total_falls}
+use Rattle.matching.proofs.Search.{all_or_some, Repeat, walk_repeats, total_falls}
 use Rattle.matching.proofs.Settled.{partner_on, linked_if_listed}
 
 -- what comes again after a period comes again after any number of them
@@ -60,11 +61,6 @@ pub moved : (h at to : ℕ → ℕ) (period : ℕ) → 0 < period → ((i : ℕ)
 moved h at to period some again one =
     let which : (x : ℕ) → ((i : ℕ) → x ≡ at i → ⊥) ⊎ ((i : ℕ) × (x ≡ at i)) = one_of at period some again in
     (λ x. moved_at h to at x (which x), record { moves = λ i. moved_moves h to at one i (which (at i)); stays = λ x. moved_stays h to at x (which x) })
-
--- The same, one door after another: h' after the first j of them
-pub record PartMoved (h at to : ℕ → ℕ) (j : ℕ) (h' : ℕ → ℕ) : Type 0 where
-  pub moves : (i : ℕ) → i < j → h' (at i) ≡ to i
-  pub stays : (x : ℕ) → (h' x ≡ h x) ⊎ ((i : ℕ) × (i < j) × (x ≡ at i))
 
 pub part_none : (h at to : ℕ → ℕ) → PartMoved h at to 0 h
 part_none h at to = record { moves = λ i b. absurd (omega arith); stays = λ x. inl refl }

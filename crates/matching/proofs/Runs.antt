@@ -7,7 +7,8 @@ use Rattle.matching.specs.Lists.{Lawful}
 use Rattle.matching.specs.Ranks.{Ranks, Links, Unblocked, Within}
 use Rattle.matching.specs.Linkings.{unlinked, exit, entrance, counts_one_way, partner, Prefers}
 use Rattle.matching.specs.Proposals.{trimmed, Asking, at_first, Proposal, Runs}
-use Rattle.matching.proofs.Bridge.{Pairing, Ranking, one_way_parts, one_way_pairing, trim_rank, pair_door, pair_other, near_pair, ranking_ranks, trim_end, trim_at, trim_ranking, prefers_door, link_of, link_none, link_some, Writes}
+use Rattle.matching.specs.Holders.{Writes}
+use Rattle.matching.proofs.Bridge.{Pairing, Ranking, one_way_parts, one_way_pairing, trim_rank, pair_door, pair_other, near_pair, ranking_ranks, trim_end, trim_at, trim_ranking, prefers_door, link_of, link_none, link_some}
 use Rattle.matching.proofs.Proposing.{at_most}
 use Rattle.matching.proofs.Pointers.{Sided, Progress, Loose, Chooses, Turn, turn_progress, turn_within}
 

@@ -1,6 +1,7 @@
 -- Searches over the numbers below a bound: some number passes or all fail, a least one, a repeat, an injection that is onto; and sums.
 use Rattle.std.proofs.Common.{◌≡◌, ℕ, zero, suc, ◌+◌, ◌<◌, ◌≤◌, ◌⊎◌, sym, refl, ap, subst, inl, inr, ⊎_elim, arith}
 use Rattle.std.proofs.lemmas.Bool.{cases_eq, cases_lt}
+use Rattle.matching.specs.Holders.{total}
 
 -- where each number is P or Q, all below n are P or one is Q
 pub all_or_some : (P Q : ℕ → Type 0) → ((k : ℕ) → P k ⊎ Q k) → (n : ℕ) → ((k : ℕ) → k < n → P k) ⊎ ((k : ℕ) × (k < n) × Q k)
@@ -88,11 +89,6 @@ injection_onto n f below inj y b =
     (view j)))
     (λ hit. hit)
     (all_or_some (λ k. f k ≡ y → ⊥) (λ k. f k ≡ y) (λ k. ⊎_elim inr inl (cases_eq (f k) y)) n)
-
--- the sum of v over the numbers below n
-unfoldable pub total : (ℕ → ℕ) → ℕ → ℕ
-total v zero = 0
-total v (suc n) = v n + total v n
 
 pub total_le : (v w : ℕ → ℕ) (n : ℕ) → ((k : ℕ) → k < n → w k ≤ v k) → total w n ≤ total v n
 unfolding total

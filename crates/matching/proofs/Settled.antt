@@ -3,12 +3,9 @@ use Rattle.std.proofs.Common.{◌≡◌, ℕ, ◌<◌, ◌≤◌, Bool, true, �
 use Rattle.std.proofs.lemmas.Bool.{cases_lt}
 use Rattle.matching.specs.Ranks.{Ranks, Links, Unblocked, On, Within}
 use Rattle.matching.specs.Settled.{Firsts, Settled, Second}
-use Rattle.matching.proofs.Proposing.{First, Holding, Ended, on_sym}
+use Rattle.matching.specs.Holders.{First, Holding, Ended, anyone}
+use Rattle.matching.proofs.Proposing.{on_sym}
 use Rattle.matching.proofs.Search.{injection_onto}
-
--- everybody may propose
-abbrev pub anyone : ℕ → Bool
-anyone x = true
 
 -- where proposals have ended each door is last on the list of its first, unlisted doors included
 pub ended_back : (r : ℕ → ℕ → ℕ) (g f : ℕ → ℕ) → Ranks r → Firsts r g f → Holding r g → Ended r anyone g → (x : ℕ) → g (f x) ≡ x

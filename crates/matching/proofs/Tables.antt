@@ -10,19 +10,10 @@ use Rattle.matching.specs.Ranks.{Ranks, On}
 use Rattle.matching.specs.Settled.{Firsts, Settled, Second, Empty}
 use Rattle.matching.specs.Rotations.{Seconds}
 use Rattle.matching.specs.TwoWay.{Without, Parted, second, last}
+use Rattle.matching.specs.Holders.{First, In, Rises, RowOf, TableOf, first}
 use Rattle.matching.proofs.Rows.{place_view}
-use Rattle.matching.proofs.Proposing.{First, on_sym, on_kept}
+use Rattle.matching.proofs.Proposing.{on_sym, on_kept}
 use Rattle.matching.proofs.Settled.{last_on}
-
--- y is on the list
-abbrev pub In : ℕ → List ℕ → Type 0
-In y [] = ⊥
-In y (z ∷ l) = (z ≡ y) ⊎ In y l
-
--- the values of v rise along the list
-abbrev pub Rises : (ℕ → ℕ) → List ℕ → Type 0
-Rises v [] = Unit {0}
-Rises v (y ∷ l) = ((z : ℕ) → In z l → v y < v z) × Rises v l
 
 pub in_at : (l : List ℕ) (k d : ℕ) → k < length l → In (get_or l k d) l
 in_at [] k d h = absurd (omega arith)
@@ -101,16 +92,6 @@ pub parted_one : (Parts : ℕ → ℕ → Type 0) (T U V : List (List ℕ)) → 
 parted_one Parts T U V a b =
     ext_get_or [] U V (a.size ∙ sym b.size) (λ x _. without_one (λ y. Parts x y ⊎ Parts y x) (row T x) (row U x) (row V x) (a.rows x) (b.rows x))
 
--- the row of x in the table of the holders g: the doors on its list, in the order of their ranks
-pub record RowOf (r : ℕ → ℕ → ℕ) (g : ℕ → ℕ) (x : ℕ) (l : List ℕ) : Type 0 where
-  pub on : (y : ℕ) → In y l → On r g x y
-  pub all : (y : ℕ) → On r g x y → In y l
-  pub rises : Rises (r x) l
-
--- the table of the holders g
-abbrev pub TableOf : (ℕ → ℕ → ℕ) → (ℕ → ℕ) → List (List ℕ) → Type 0
-TableOf r g T = (x : ℕ) → RowOf r g x (row T x)
-
 module _ (r : ℕ → ℕ → ℕ) (g : ℕ → ℕ) (x : ℕ) where
   -- the first on a row
   pub row_first : (l : List ℕ) (d : ℕ) → RowOf r g x l → 0 < length l → First r g x (get_or l 0 d)
@@ -162,10 +143,6 @@ row_one r g x l l' R R' = rises_same (r x) l l' R.rises R'.rises (λ y i. R'.all
 
 pub table_one : (r : ℕ → ℕ → ℕ) (g : ℕ → ℕ) (T U : List (List ℕ)) → length T ≡ length U → TableOf r g T → TableOf r g U → T ≡ U
 table_one r g T U n t u = ext_get_or [] T U n (λ x _. row_one r g x (row T x) (row U x) (t x) (u x))
-
--- the first door on a row; the door itself where there is none
-abbrev pub first : List (List ℕ) → ℕ → ℕ
-first T x = get_or (row T x) 0 x
 
 -- preference in a table
 module _ (r : ℕ → ℕ → ℕ) (g : ℕ → ℕ) (T : List (List ℕ)) (t : TableOf r g T) where

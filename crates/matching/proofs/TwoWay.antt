@@ -4,11 +4,12 @@ use Rattle.matching.specs.Lists.{row, place, PlaceOf, Lawful}
 use Rattle.matching.specs.Linkings.{listed, accept, Linking, BlockingPair, Stable}
 use Rattle.matching.specs.Ranks.{Links, Unblocked, Within}
 use Rattle.matching.specs.TwoWay.{Outcome, Inside, ProposalsAgree, SomeStays, TwoWayDecides}
+use Rattle.matching.specs.Holders.{Writes, In, TableOf}
 use Rattle.matching.proofs.Rows.{place_view}
-use Rattle.matching.proofs.Bridge.{Ranking, Writes, accept_pairing, trim_rank, trim_ranking, link_of, linking_writes, links_writes, writes_stable, linking_links, stable_unblocked, written, written_writes, written_linking, written_stable}
+use Rattle.matching.proofs.Bridge.{Ranking, accept_pairing, trim_rank, trim_ranking, link_of, linking_writes, links_writes, writes_stable, linking_links, stable_unblocked, written, written_writes, written_linking, written_stable}
 use Rattle.matching.proofs.Decided.{stable_or_blocked}
 use Rattle.matching.proofs.Settled.{partner_on}
-use Rattle.matching.proofs.Tables.{In, at_in, TableOf}
+use Rattle.matching.proofs.Tables.{at_in}
 use Rattle.matching.proofs.Finishing.{finish_stands, finish_one, finishes}
 use Rattle.matching.proofs.Reducing.{reduces_reduced, outcome_none, outcome_links, outcome_one, outcome_exists}
 

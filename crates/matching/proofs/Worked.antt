@@ -4,11 +4,10 @@ use Rattle.std.specs.List.{range_with_len, list_all}
 use Rattle.std.proofs.lemmas.List.FromFn.{get_or-range_with_len, length-range_with_len}
 use Rattle.std.proofs.lemmas.List.{get_or_default, get_or_past}
 use Rattle.std.proofs.lemmas.Bool.{and_parts, and_from, cases_lt, ltb-true, ltb-false, lt-ltb, not-true, eqb-false, not_from_false, ne_eqb, both_ways, cond_both}
-use Rattle.matching.specs.Lists.{place, lawful_list, lawful_from, lawful, Lawful}
+use Rattle.matching.specs.Lists.{place, lawful_list, lawful_from, lawful, Lawful, rank}
 use Rattle.matching.specs.Linkings.{unlinked, listed, accept, exit, entrance, counts_one_way}
 use Rattle.matching.specs.Proposals.{trimmed, Asking, at_first, Runs, Finished, ResultOf, OneWayResult}
 use Rattle.matching.proofs.Rows.{all_pass_at, all_pass_from, lawful_facts}
-use Rattle.matching.proofs.Positions.{rank}
 use Rattle.matching.proofs.Bridge.{trim_rank, link_of}
 use Rattle.matching.proofs.Runs.{ranks, asks, holds, Under, follows, run_under}
 use Rattle.matching.proofs.Turns.{Ready, taken, refused, ready_free, run_takes, run_refuses, over_finished}

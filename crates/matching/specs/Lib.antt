@@ -5,3 +5,4 @@ pub mod Proposals
 pub mod Settled
 pub mod Rotations
 pub mod TwoWay
+pub mod Holders

@@ -1,6 +1,6 @@
 -- Preference lists. A level of n doors is a list of n rows: row x is the list of door x, the most wanted door first.
 use Rattle.std.specs.Prelude.{◌≡◌, ℕ, suc, ◌<◌, ◌≤◌, Bool, true, cond, not, ◌&&◌, List, [], ◌∷◌, length, Some, None, filter, Option, ◌==◌, ◌≢◌, nat_eq, nat_le, nat_lt, slice_index, slice_index_or}
-use Rattle.std.specs.Option.{option_map}
+use Rattle.std.specs.Option.{option_map, unwrap_or}
 use Rattle.std.specs.List.{list_all}
 
 -- the list of door x; a number past the last door has the empty list
@@ -11,6 +11,10 @@ row ls x = slice_index_or ls x []
 unfoldable pub place : List ℕ → ℕ → Option ℕ
 place [] y = None
 place (x ∷ xs) y = cond (x == y) (Some 0) (option_map suc (place xs y))
+
+-- the rank of a door on a list: its place, or the length of the list where it is not listed
+unfoldable pub rank : List ℕ → ℕ → ℕ
+rank l y = unwrap_or (place l y) (length l)
 
 -- no element equals one after it, by the test eq
 abbrev pub is_distinct : {X : Type 0} → (X → X → Bool) → List X → Bool

@@ -7,6 +7,11 @@ pub record Moved (h : ℕ → ℕ) (at to : ℕ → ℕ) (h' : ℕ → ℕ) : Ty
   pub moves : (i : ℕ) → h' (at i) ≡ to i
   pub stays : (x : ℕ) → (h' x ≡ h x) ⊎ ((i : ℕ) × (x ≡ at i))
 
+-- The same, one door after another: h' after the first j of them
+pub record PartMoved (h at to : ℕ → ℕ) (j : ℕ) (h' : ℕ → ℕ) : Type 0 where
+  pub moves : (i : ℕ) → i < j → h' (at i) ≡ to i
+  pub stays : (x : ℕ) → (h' x ≡ h x) ⊎ ((i : ℕ) × (i < j) × (x ≡ at i))
+
 -- A rotation: the door after a i is the last on the list of the second on a i's list, and after some number of steps the doors come again
 pub record Rotation (r : ℕ → ℕ → ℕ) (g f s : ℕ → ℕ) (a : ℕ → ℕ) (period : ℕ) : Type 0 where
   pub second : (i : ℕ) → Second r g f (a i) (s (a i))

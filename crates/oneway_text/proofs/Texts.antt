@@ -5,11 +5,11 @@ use Rattle.faults.specs.declared.Fault.{Fault}
 use Rattle.faults.specs.declared.Refusal.TheVariants.{WrongSize, BadSide}
 use Rattle.linker.specs.OneWay.{Room, FirstBad, SidesFit, linker_fault}
 use Rattle.matching.specs.Proposals.{OneWayResult}
+use Rattle.text.specs.Digits.{Digits, numbers_of}
 use Rattle.text.specs.Lines.{refused_line}
-use Rattle.oneway_text.specs.Sides.{Digits, sides_of}
 use Rattle.oneway_text.specs.Printed.{linked_text, OneWayText}
 
-module _ (ls : List (List ℕ)) (line sides : List ℕ) (size : length line ≡ length ls) (digits : Digits line) (read : sides ≡ sides_of line) where
+module _ (ls : List (List ℕ)) (line sides : List ℕ) (size : length line ≡ length ls) (digits : Digits line) (read : sides ≡ numbers_of line) where
   pub linked : (m m' : List ℕ) (k : ℕ) (text : List ℕ) → SidesFit sides → OneWayResult ls sides m k → m' ≡ m → text ≡ linked_text m' k → OneWayText ls line text
   linked m m' k text fit result same e =
       inr (m, k, size, digits, subst SidesFit read fit, subst (λ s. OneWayResult ls s m k) read result, e ∙ ap (λ p. linked_text p k) same)

@@ -8,8 +8,8 @@ use Rattle.codec.specs.Verdicts.{RefusedFor}
 use Rattle.linker.specs.OneWay.{SidesFit}
 use Rattle.matching.specs.Lists.{lawful}
 use Rattle.matching.specs.Proposals.{OneWayResult}
+use Rattle.text.specs.Digits.{Digits, numbers_of}
 use Rattle.text.specs.Lines.{linking_line, refused_line, refused_file_line}
-use Rattle.oneway_text.specs.Sides.{Digits, sides_of}
 
 -- a linking in which every door stands, and under it the number of its proposals
 abbrev pub linked_text : List ℕ → ℕ → List ℕ
@@ -21,13 +21,13 @@ abbrev pub Wrong : ℕ → List ℕ → Refusal → Type 0
 Wrong n line r =
     ((length line ≢ n) × (r ≡ WrongSize))
     ⊎ (((length line ≡ n) × (Digits line → ⊥) × (r ≡ UnreadLine))
-    ⊎ ((length line ≡ n) × Digits line × (SidesFit (sides_of line) → ⊥) × (r ≡ BadSide)))
+    ⊎ ((length line ≡ n) × Digits line × (SidesFit (numbers_of line) → ⊥) × (r ≡ BadSide)))
 
 -- for lists and a line of sides: the refusal, or the one-way linking
 abbrev pub OneWayText : List (List ℕ) → List ℕ → List ℕ → Type 0
 OneWayText ls line text =
     ((r : Refusal) × Wrong (length ls) line r × (text ≡ refused_line r))
-    ⊎ ((m : List ℕ) × (k : ℕ) × (length line ≡ length ls) × Digits line × SidesFit (sides_of line) × OneWayResult ls (sides_of line) m k × (text ≡ linked_text m k))
+    ⊎ ((m : List ℕ) × (k : ℕ) × (length line ≡ length ls) × Digits line × SidesFit (numbers_of line) × OneWayResult ls (numbers_of line) m k × (text ≡ linked_text m k))
 
 -- for a file and a line of sides: the file's first fault, or what is printed for the lists in it
 abbrev pub FileText : List ℕ → List ℕ → List ℕ → Type 0

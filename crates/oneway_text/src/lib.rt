@@ -1,50 +1,39 @@
-// What the program for one-way linking prints.
+//! What the program for one-way linking prints.
 
 #![tactic(auto)]
 
-ghost use Rattle.std.specs.Prelude.{◌≡◌, IfOk, string_bytes, MatchOption};
-ghost use Rattle.oneway_text.specs.Sides.{Digits, sides_of};
+ghost use Rattle.std.specs.Prelude.{◌≡◌, IfOk, string_bytes};
 ghost use Rattle.oneway_text.specs.Printed.{linked_text, OneWayText, FileText};
 
 use faults::Refusal;
 use linker::one_way_link;
 use sources::Source;
 use std::alloc::{AllocError, Global};
-use text::{linking_line, refused_file_line, refused_line};
-
-// The sides that a line of digits writes; nothing where a character is no digit.
-fn read_sides(heap: Global, line: &[u8]) -> Result<Option<Vec<u8>>, AllocError>
-    ensures { IfOk result (λ sides. MatchOption sides (Digits line.now → ⊥) (λ v. Digits line.now × (v.items ≡ sides_of line.now))) }
-{
-    let mut sides = Vec::with_capacity(heap, line.len())?;
-    for digit in line {
-        if !digit.is_ascii_digit() {
-            return Ok(None);
-        }
-        sides.push(*digit - b'0')?;
-    }
-    Ok(Some(sides))
-}
+use text::{Linking, digits, refused_file_line, refused_line};
 
 // A linking in which every door stands, and the number of its proposals.
 fn linked_text(heap: Global, partners: &[u16], proposals: u16) -> Result<String, AllocError>
     ensures { IfOk result (λ s. string_bytes s ≡ linked_text partners.now proposals) }
 {
     let standing = vec![in heap; true; partners.len()]?;
-    let linking = linking_line(heap, "", &standing, partners)?;
+    let linking = Linking {
+        begun: false,
+        standing: &standing,
+        partners,
+    };
     format!(in heap; "{linking}\n{proposals} proposals")
 }
 
-// What is printed for a source and a line with a digit for each door, 0 for an exit and 1 for an entrance.
-// Another number of characters is refused first, then a character that is no digit, then a digit above 1.
+/// What is printed for a source and a line with a digit for each door, 0 for an exit and 1 for an entrance.
+/// Another number of characters is refused first, then a character that is no digit, then a digit above 1.
 pub fn one_way_lines<S: Source>(heap: Global, source: &S, line: &[u8]) -> Result<String, AllocError>
     ensures { IfOk result (λ s. OneWayText (S.Source.lists source.now) line.now (string_bytes s)) }
 {
-    let n = source.count() as usize;
+    let n = usize::from(source.count());
     if line.len() != n {
         return refused_line(heap, Refusal::WrongSize);
     }
-    let Some(sides) = read_sides(heap, line)? else {
+    let Some(sides) = digits(heap, line)? else {
         return refused_line(heap, Refusal::UnreadLine);
     };
     let mut partners = vec![in heap; 0u16; n]?;
@@ -55,7 +44,7 @@ pub fn one_way_lines<S: Source>(heap: Global, source: &S, line: &[u8]) -> Result
     }
 }
 
-// What is printed for the bytes of a level file and a line of sides.
+/// What is printed for the bytes of a level file and a line of sides.
 pub fn one_way_file(heap: Global, file: &[u8], line: &[u8]) -> Result<String, AllocError>
     ensures { IfOk result (λ s. FileText file.now line.now (string_bytes s)) }
 {

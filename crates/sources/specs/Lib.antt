@@ -1,4 +1,3 @@
 pub mod Files
 pub mod Grounds
 pub mod Layers
-pub mod LayersLemmas

@@ -1,4 +1,4 @@
-// Sources of preference lists, all behind the same three questions.
+//! Sources of preference lists, all behind the same three questions.
 
 #![tactic(auto)]
 
@@ -9,7 +9,7 @@ mod laws;
 mod reach;
 mod reading;
 mod source;
-mod table;
+mod tabled;
 
 pub use baking::bake;
 pub use file::FileSource;
@@ -18,3 +18,4 @@ pub use laws::baked_lists_read_back;
 pub use reach::Reach;
 pub use reading::copied;
 pub use source::Source;
+pub use tabled::Tabled;

@@ -1,13 +1,15 @@
-// A shorter reach over any source.
+//! A shorter reach over any source.
+ghost use Rattle.matching.proofs.Reaching.{reached_lawful};
 ghost use Rattle.sources.specs.Layers.{reached};
-ghost use Rattle.sources.specs.LayersLemmas.{reached_lawful};
 
 use crate::source::Source;
 
-// The source below with only the first `reach` doors of each list.
+/// The source below with only the first `reach` doors of each list.
 #[derive(Drop)]
 pub struct Reach<S> {
+    /// The source below.
     pub below: S,
+    /// The longest that a list is.
     pub reach: u8,
 }
 
@@ -25,7 +27,6 @@ impl<S: Source> Source for Reach<S> {
     }
 
     fn place(&self, door: u8, other: u8) -> Option<u8> {
-        let at = self.below.place(door, other)?;
-        if at < self.reach { Some(at) } else { None }
+        self.below.place(door, other).filter(|at| *at < self.reach)
     }
 }

@@ -1,35 +1,36 @@
-// Reading a source's lists by asking for places.
-ghost use Rattle.std.specs.Prelude.{◌≡◌, ◌≤◌, length, take};
+//! Reading a source's lists by asking for places.
+ghost use Rattle.std.specs.Prelude.{◌≡◌};
 ghost use Rattle.lists.specs.Tables.{lists as rows};
 ghost use Rattle.matching.specs.Lists.{row};
 
 use crate::source::Source;
-use lists::ListTable;
+use lists::{ListTable, ROOM};
 
-// Writes the list of `door` to the front of `out`, and gives its length.
-pub(crate) fn read_list<S: Source>(source: &S, door: u8, out: &mut [u8; 96]) -> u8
-    ensures size { result ≡ length (row (S.Source.lists source.now) door) }
-    ensures fits { result ≤ 96 }
-    ensures read { take result out.new ≡ row (S.Source.lists source.now) door }
+// Memory for one list.
+// stays: an array, for the list is written at the places that the source answers, out of order, and an ArrayVec is filled in order
+pub(crate) type Buffer = [u8; ROOM];
+
+// The list of `door`, written to the front of `buffer`.
+pub(crate) fn list_of<'a, S: Source>(source: &S, door: u8, buffer: &'a mut Buffer) -> &'a [u8]
+    ensures { result.now ≡ row (S.Source.lists source.now) door }
 {
     for other in 0..source.count() {
         if let Some(at) = source.place(door, other) {
-            out[at as usize] = other;
+            buffer[usize::from(at)] = other;
         }
     }
-    source.length(door)
+    &buffer[..usize::from(source.length(door))]
 }
 
-// A table with the lists of a source.
+/// A table with the lists of a source.
 pub fn copied<S: Source>(source: &S) -> ListTable
     ensures { rows result ≡ S.Source.lists source.now }
 {
     let count = source.count();
     let mut table = ListTable::empty(count);
-    let mut list = [0u8; 96];
+    let mut buffer = [0; ROOM];
     for door in 0..count {
-        let length = read_list(source, door, &mut list);
-        let _ = table.put(door, &list[0..length as usize]);
+        let _ = table.put(door, list_of(source, door, &mut buffer));
     }
     table
 }

@@ -1,13 +1,14 @@
-// The largest level: 96 doors that all list each other.
+//! The largest level: 96 doors that all list each other.
 use lists::ListTable;
+use std::array;
 
 // Every door but one, in rising order.
 fn others(door: u8) -> [u8; 95] {
-    let mut list = [0u8; 95];
-    for k in 0..95u8 {
-        list[k as usize] = if k < door { k } else { k + 1 };
-    }
-    list
+    array::from_fn(|k| if k < usize::from(door) {
+        k as u8
+    } else {
+        k as u8 + 1
+    })
 }
 
 // 96 doors that all list each other, the lower numbers first.

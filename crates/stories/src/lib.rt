@@ -1,4 +1,4 @@
-// Tests over several layers: levels under edit, and linkings over piles of sources.
+//! Tests over several layers: levels under edit, and linkings over piles of sources.
 
 #![tactic(auto)]
 

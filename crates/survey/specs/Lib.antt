@@ -1,2 +1,1 @@
 pub mod Ground
-pub mod Steps

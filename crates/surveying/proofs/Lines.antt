@@ -1,33 +1,16 @@
 -- The lines of a text, one after another.
-use Rattle.std.proofs.Common.{◌≡◌, ℕ, ◌+◌, ◌<◌, ◌≤◌, Bool, true, false, not, eqb, List, [], ◌∷◌, ◌++◌, map, length, get_or, take, Some, None, filter, sym, refl, ap, ◌∙◌, subst, arith}
+use Rattle.std.proofs.Common.{◌≡◌, ℕ, ◌+◌, ◌<◌, ◌≤◌, Bool, true, false, not, List, [], ◌∷◌, ◌++◌, map, length, get_or, take, Some, None, filter, sym, refl, ap, ◌∙◌, subst, arith}
 use Rattle.std.specs.List.{AllByRecursion}
 use Rattle.std.proofs.lemmas.List.Elements.{filter-append}
 use Rattle.std.proofs.ByRecursion.{All-push}
 use Rattle.std.proofs.lemmas.List.{append_assoc, append-nil, length-append, length_push, get_or_at, take_at, map_push}
-use Rattle.std.proofs.lemmas.Bool.{cond-true, cond-false, ne_eqb, not_from_true, not_from_false}
+use Rattle.std.proofs.lemmas.Bool.{cond-true, cond-false, not_from_true, not_from_false}
 use Rattle.survey.specs.declared.Record.{Record}
-use Rattle.surveying.specs.Survey.{lines, onto, passed, record_text, InRange, ReadsRecord, Says, MalformedAt}
-use Rattle.text.specs.Reads.{Lacks}
-use Rattle.text.proofs.Cuts.{lacks_rest}
+use Rattle.text.specs.Texts.{lines}
+use Rattle.surveying.specs.Survey.{passed, record_text, InRange, ReadsRecord, Says, MalformedAt}
 
 abbrev keeps : List ℕ → Bool
 keeps l = not (passed l)
-
--- a byte that ends no line belongs to the first
-lines_byte : (c : ℕ) (cs : List ℕ) → Lacks 10 (c ∷ cs) → (bs : List ℕ) → lines (c ∷ bs) ≡ onto c (lines bs)
-lines_byte c cs h bs = cond-false (eqb c 10) ([] ∷ lines bs) (onto c (lines bs)) (ne_eqb c 10 (h 0 (omega arith)))
-
-pub lines_cut : (l rest : List ℕ) → Lacks 10 l → lines (l ++ (10 ∷ rest)) ≡ l ∷ lines rest
-lines_cut [] rest h = refl
-lines_cut (c ∷ l) rest h = lines_byte c l h (l ++ (10 ∷ rest)) ∙ ap (onto c) (lines_cut l rest (lacks_rest 10 c l h))
-
-pub lines_last : (l : List ℕ) → Lacks 10 l → 0 < length l → lines l ≡ l ∷ []
-lines_last [] h s = absurd (omega arith)
-lines_last (c ∷ []) h s = lines_byte c [] h []
-lines_last (c ∷ d ∷ l) h s = lines_byte c (d ∷ l) h (d ∷ l) ∙ ap (onto c) (lines_last (d ∷ l) (lacks_rest 10 c (d ∷ l) h) (omega arith))
-
-pub rest_less : (text l rest : List ℕ) → text ≡ l ++ (10 ∷ rest) → length rest < length text
-rest_less text l rest e = omega (arith, ap length e ∙ length-append l (10 ∷ rest))
 
 -- the lines before what is left of a text say the records so far
 pub record ReadTo (text rest : List ℕ) (number : ℕ) (rs : List Record) : Type 0 where
@@ -41,9 +24,9 @@ pub read_none : (text : List ℕ) (rs : List Record) → rs ≡ [] → ReadTo te
 read_none text rs e =
     record { read = []; split = refl; counted = refl; says = record { texts = ap (map record_text) (sym e); in_range = subst (AllByRecursion InRange) (sym e) tt }; short = omega arith }
 
-pub read_all : {text : List ℕ} (rest : List ℕ) {number : ℕ} {rs : List Record} → ReadTo text rest number rs → length rest ≡ 0 → Says (lines text) rs
+pub read_all : {text : List ℕ} (rest : List ℕ) {number : ℕ} {rs : List Record} → ReadTo text rest number rs → rest ≡ [] → Says (lines text) rs
 read_all {text} [] {number} {rs} r e = subst (λ ls. Says ls rs) (sym (r.split ∙ append-nil r.read)) r.says
-read_all {text} (c ∷ rest) {number} {rs} r e = absurd (omega arith)
+read_all {text} (c ∷ rest) {number} {rs} r e = absurd (omega (arith, ap length e))
 
 module _ {text rest : List ℕ} {number : ℕ} {rs : List Record} (r : ReadTo text rest number rs) {line : List ℕ} (after : List ℕ) (first : lines rest ≡ line ∷ lines after) (less : length after < length rest) where
   moved : lines text ≡ (r.read ++ (line ∷ [])) ++ lines after

@@ -5,9 +5,10 @@ use Rattle.lists.specs.Tables.{lists}
 use Rattle.lists.specs.declared.table.ListTable.{ListTable}
 use Rattle.survey.specs.Ground.{Sound, GroundLists, SurveyFault}
 use Rattle.survey.specs.declared.Record.{Record}
-use Rattle.surveying.specs.Survey.{lines, Says, MalformedAt}
-use Rattle.surveying.specs.declared.reading.SurveyError.{SurveyError}
-use Rattle.surveying.specs.declared.reading.SurveyError.TheVariants.{Malformed, NoMemory, Refused}
+use Rattle.surveying.specs.Survey.{Says, MalformedAt}
+use Rattle.text.specs.Texts.{lines}
+use Rattle.surveying.specs.declared.failures.SurveyError.{SurveyError}
+use Rattle.surveying.specs.declared.failures.SurveyError.TheVariants.{Malformed, NoMemory, Refused}
 
 -- the records that the lines say, or the number of the first malformed line; memory may run out at any text
 abbrev pub Surveyed : List ℕ → Result (Vec Record Global) SurveyError → Type 0

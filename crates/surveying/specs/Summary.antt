@@ -1,5 +1,5 @@
 -- What is said of a survey and its level file. Each line ends with a line feed.
-use Rattle.std.specs.Prelude.{◌≡◌, ℕ, ◌/◌, Bool, cond, List, ◌++◌, length, codes, decimal, Decides, sum_by}
+use Rattle.std.specs.Prelude.{◌≡◌, ℕ, ◌/◌, Bool, cond, List, ◌++◌, length, codes, decimal, ◌↔◌, IsTrue, sum_by}
 use Rattle.codec.specs.Blocks.{baking, block_check, block_of}
 use Rattle.std.specs.List.{range_with_len, flat_map}
 
@@ -31,4 +31,4 @@ read_back same = cond same (codes "read back: same lists\n") (codes "read back: 
 -- the whole text: the same lists were read back where the file is the baking of the lists, and only there
 abbrev pub Summary : List (List ℕ) → List ℕ → List ℕ → Type 0
 Summary ls file text =
-    (same : Bool) × Decides same (file ≡ baking ls) × (text ≡ (counts ls file ++ check_lines file (blocks_of file)) ++ read_back same)
+    (same : Bool) × (IsTrue same ↔ (file ≡ baking ls)) × (text ≡ (counts ls file ++ check_lines file (blocks_of file)) ++ read_back same)

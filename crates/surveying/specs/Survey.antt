@@ -1,19 +1,9 @@
 -- The text of a survey.
-use Rattle.std.specs.Prelude.{◌≡◌, ℕ, ◌+◌, ◌^◌, ◌<◌, Bool, true, false, cond, not, List, [], ◌∷◌, ◌++◌, map, length, take, Some, None, decimal, filter, Option, ◌==◌, ◌≢◌, slice_index_or}
+use Rattle.std.specs.Prelude.{◌≡◌, ℕ, ◌+◌, ◌^◌, ◌<◌, Bool, true, false, not, List, [], ◌∷◌, ◌++◌, map, length, take, Some, None, decimal, filter, Option, ◌==◌, ◌≢◌, slice_index_or}
 use Rattle.std.specs.Int.Signed.{mag}
 use Rattle.std.specs.Fmt.{signed_decimal}
 use Rattle.std.specs.List.{AllByRecursion}
 use Rattle.survey.specs.declared.Record.{Record}
-
--- a byte before the first of some lines
-abbrev pub onto : ℕ → List (List ℕ) → List (List ℕ)
-onto c [] = (c ∷ []) ∷ []
-onto c (l ∷ ls) = (c ∷ l) ∷ ls
-
--- the lines of a text: each ends with a line feed, which the last may lack
-abbrev pub lines : List ℕ → List (List ℕ)
-lines [] = []
-lines (c ∷ cs) = cond (c == 10) ([] ∷ lines cs) (onto c (lines cs))
 
 -- a line that is passed over: empty, or one that begins with `#`
 abbrev pub passed : List ℕ → Bool

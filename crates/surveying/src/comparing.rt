@@ -1,13 +1,14 @@
-// Two sources compared, and one counted.
-ghost use Rattle.std.specs.Prelude.{◌≡◌, length, Decides, sum_by};
+//! Two sources compared, and one counted.
+ghost use Rattle.std.specs.Prelude.{◌≡◌, ◌↔◌, length, IsTrue, sum_by};
 ghost use Rattle.codec.specs.Blocks.{baking};
 ghost use Rattle.matching.specs.Lists.{row};
 
 use sources::Source;
 
 // Whether two sources have the same list for a door.
+#[tactic(auto, using(crate::proofs::Places::same_by_places, matching::proofs::Rows::lawful_facts))]
 fn same_list<A: Source, B: Source>(one: &A, other: &B, door: u8) -> bool
-    ensures { Decides result (row (A.Source.lists one.now) door ≡ row (B.Source.lists other.now) door) }
+    ensures { IsTrue result ↔ (row (A.Source.lists one.now) door ≡ row (B.Source.lists other.now) door) }
 {
     if one.length(door) != other.length(door) {
         return false;
@@ -22,7 +23,7 @@ fn same_list<A: Source, B: Source>(one: &A, other: &B, door: u8) -> bool
 
 // Whether two sources have the same lists, as far as their answers go.
 pub(crate) fn same_lists<A: Source, B: Source>(one: &A, other: &B) -> bool
-    ensures { Decides result (A.Source.lists one.now ≡ B.Source.lists other.now) }
+    ensures { IsTrue result ↔ (A.Source.lists one.now ≡ B.Source.lists other.now) }
 {
     if one.count() != other.count() {
         return false;
@@ -36,6 +37,7 @@ pub(crate) fn same_lists<A: Source, B: Source>(one: &A, other: &B) -> bool
 }
 
 // How many doors are listed in all.
+#[tactic(auto, using(std::proofs::lemmas::List::Sums::sum_by_more, sources::proofs::Asked::row_short))]
 pub(crate) fn listed<S: Source>(source: &S) -> u32
     ensures { result ≡ sum_by length (S.Source.lists source.now) }
 {
@@ -48,10 +50,7 @@ pub(crate) fn listed<S: Source>(source: &S) -> u32
 
 // Whether a file is accepted and has the lists of a source.
 pub(crate) fn reads_back<S: Source>(source: &S, file: &[u8]) -> bool
-    ensures { Decides result (file.now ≡ baking (S.Source.lists source.now)) }
+    ensures { IsTrue result ↔ (file.now ≡ baking (S.Source.lists source.now)) }
 {
-    match codec::read(file) {
-        Ok(table) => same_lists(source, &table),
-        Err(_) => false,
-    }
+    codec::read(file).is_ok_and(|table| same_lists(source, &table))
 }

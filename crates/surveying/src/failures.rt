@@ -1,51 +1,58 @@
-// What is said where a survey gives no lists.
-ghost use Rattle.std.specs.Prelude.{◌≡◌, IfOk, string_bytes};
-ghost use Rattle.surveying.specs.Failures.{failure_text, layer_word, place_text, refused_text};
+//! What is said where a survey gives no lists.
+ghost use Rattle.std.specs.Prelude.{◌≡◌, IfOk, Some, string_bytes};
+ghost use Rattle.surveying.specs.Failures.{failure_text};
+ghost use Rattle.surveying.specs.declared.failures.SurveyError.TheVariants.{NoMemory, Refused};
 
-use crate::reading::SurveyError;
-use faults::{Fault, Layer, Place};
-use std::alloc::{AllocError, Global};
+use faults::Fault;
+use std::alloc::{AllocError, AllocFailed, Global};
+use std::fmt;
 
-// The layer as a word.
-fn layer_word(layer: Layer) -> &'static str
-    ensures { result.now ≡ layer_word layer }
-{
-    match layer {
-        Layer::File => "file",
-        Layer::Ground => "ground",
-        Layer::Level => "level",
-        Layer::Linker => "linker",
-        Layer::Console => "console",
+/// Why a survey's text gives no lists.
+#[derive(Clone, Copy, Debug)]
+pub enum SurveyError {
+    /// the line of this number, counted from 1, is malformed
+    Malformed(usize),
+    /// the records cannot be ranked
+    Refused(Fault),
+    /// no memory for the records
+    NoMemory,
+}
+
+impl From<Fault> for SurveyError {
+    ghost from_gives = { λ f e. e ≡ Refused f };
+
+    fn from(fault: Fault) -> SurveyError {
+        SurveyError::Refused(fault)
     }
 }
 
-// One number, or a block and a byte.
-fn place_text(heap: Global, place: Place) -> Result<String, AllocError>
-    ensures { IfOk result (λ text. string_bytes text ≡ place_text place) }
-{
-    match place {
-        Place::At(number) => format!(in heap; "{number}"),
-        Place::Byte { block, byte } => format!(in heap; "{block} {byte}"),
+impl<T: Drop> From<AllocFailed<T>> for SurveyError {
+    ghost from_gives = { λ _ e. e ≡ NoMemory };
+
+    fn from(_error: AllocFailed<T>) -> SurveyError {
+        SurveyError::NoMemory
     }
 }
 
-// Number, layer and place of a fault.
-fn refused_text(heap: Global, fault: Fault) -> Result<String, AllocError>
-    ensures { IfOk result (λ text. string_bytes text ≡ refused_text fault) }
-{
-    let number = fault.refusal.number();
-    let layer = layer_word(fault.layer);
-    let place = place_text(heap, fault.place)?;
-    format!(in heap; "refused {number} {layer} {place}")
+impl fmt::Display for SurveyError {
+    ghost output = { λ error. Some (failure_text error) };
+
+    fn fmt<W: fmt::Write>(&self, f: &mut fmt::Formatter<W>) -> fmt::Result {
+        match self {
+            SurveyError::Malformed(number) => write!(f, "malformed line {number}"),
+            SurveyError::Refused(fault) => write!(f, "{fault}"),
+            SurveyError::NoMemory => f.write_str("no memory"),
+        }
+    }
 }
 
-// The line that says why a survey gives no lists.
+// stays: `thiserror` would promise neither the text nor what `?` makes of a fault
+impl std::error::Error for SurveyError {}
+
+/// The line that says why a survey gives no lists.
+// stays: a public function that promised this text before its `Display` stood
 pub fn failure_line(heap: Global, error: SurveyError) -> Result<String, AllocError>
     ensures { IfOk result (λ line. string_bytes line ≡ failure_text error) }
 {
-    match error {
-        SurveyError::Malformed(number) => format!(in heap; "malformed line {number}"),
-        SurveyError::Refused(fault) => refused_text(heap, fault),
-        SurveyError::NoMemory => String::from_str(heap, "no memory"),
-    }
+    format!(in heap; "{error}")
 }

@@ -1,12 +1,12 @@
-// The level file of any source.
+//! The level file of any source.
 ghost use Rattle.std.specs.Prelude.{◌≡◌, IfOk};
 ghost use Rattle.codec.specs.Blocks.{baking};
 
-use crate::BLOCK;
+use codec::BLOCK;
 use sources::Source;
 use std::alloc::{AllocError, Global};
 
-// The level file of a source's lists.
+/// The level file of a source's lists.
 pub fn level_file<S: Source>(heap: Global, source: &S) -> Result<Vec<u8>, AllocError>
     ensures { IfOk result (λ file. file.items ≡ baking (S.Source.lists source.now)) }
 {

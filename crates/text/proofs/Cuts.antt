@@ -1,19 +1,10 @@
--- A list cut at the first byte that is a mark.
-use Rattle.std.proofs.Common.{◌≡◌, ℕ, zero, suc, ◌+◌, ◌-◌, ◌^◌, ◌<◌, List, [], ◌∷◌, ◌++◌, length, get_or, take, drop, ℤ, pos, negsuc, decimal, sym, refl, ap, ◌∙◌, arith}
+-- Lists cut at the first byte that is a mark.
+use Rattle.std.proofs.Common.{◌≡◌, ℕ, zero, suc, ◌^◌, ◌<◌, List, [], ◌∷◌, ◌++◌, ℤ, pos, negsuc, decimal, refl, arith}
 use lib.Signed.{mag}
-use native.Mathlib.Nat.{sub-zero}
-use Rattle.std.proofs.lemmas.List.{take-append-drop, drop_more, take_rest, get_or-take, length-take-le}
 use Rattle.std.specs.Fmt.{signed_decimal}
 use Rattle.std.proofs.lemmas.Fmt.{decimal_is_IsNumeral}
 use Rattle.std.proofs.lemmas.Str.Parse.{digit_at}
 use Rattle.text.specs.Reads.{Lacks}
-
-pub cut_at : (bs : List ℕ) (i mark : ℕ) → i < length bs → get_or bs i 0 ≡ mark → ((k : ℕ) → k < i → get_or bs k 0 ≡ mark → ⊥)
-    → (bs ≡ take (i - 0) bs ++ (mark ∷ take (length bs - (i + 1)) (drop (i + 1) bs))) × Lacks mark (take (i - 0) bs)
-cut_at bs i mark h e before = rw sub-zero (
-  sym (take-append-drop i bs) ∙ ap (λ l. take i bs ++ l) (drop_more bs i 0 h ∙ ap (λ b. b ∷ drop (i + 1) bs) e ∙ ap (λ l. mark ∷ l) (sym (take_rest bs (i + 1)))),
-  λ k l f. let n : k < i = omega (arith, length-take-le i bs (omega arith)) in before k n (sym (get_or-take i bs k 0 n) ∙ f),
-)
 
 pub lacks_rest : (mark c : ℕ) (cs : List ℕ) → Lacks mark (c ∷ cs) → Lacks mark cs
 lacks_rest mark c cs h i l e = h (suc i) (omega arith) e

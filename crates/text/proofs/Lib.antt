@@ -1,4 +1,7 @@
 pub mod Numerals
 pub mod Signs
 pub mod Cuts
-pub mod Words
+pub mod Written
+pub mod Lines
+pub mod Pairs
+pub mod Numbered

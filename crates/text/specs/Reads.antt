@@ -22,3 +22,12 @@ Lacks mark bs = (i : ℕ) → i < length bs → slice_index bs i ≢ mark
 abbrev pub SplitsAt : ℕ → List ℕ → Option (Bor (List ℕ) × Bor (List ℕ)) → Type 0
 SplitsAt mark bs (Some p) = (bs ≡ p.0.now ++ (mark ∷ p.1.now)) × Lacks mark p.0.now
 SplitsAt mark bs None = Lacks mark bs
+
+-- two numbers with one space between them
+abbrev pub pair_text : ℕ → ℕ → List ℕ
+pair_text a b = decimal a ++ (32 ∷ decimal b)
+
+-- two bytes are read where the bytes are just what is written of them
+abbrev pub ReadsPair : List ℕ → Option (ℕ × ℕ) → Type 0
+ReadsPair bs (Some p) = (p.0 < 2 ^ 8) × (p.1 < 2 ^ 8) × (bs ≡ pair_text p.0 p.1)
+ReadsPair bs None = (a b : ℕ) → a < 2 ^ 8 → b < 2 ^ 8 → bs ≢ pair_text a b

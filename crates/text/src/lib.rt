@@ -1,4 +1,4 @@
-// Numbers and lines, read from bytes and written to text.
+//! Numbers and lines, read from bytes and written to text.
 
 #![tactic(auto)]
 
@@ -7,7 +7,10 @@ mod numbers;
 mod parts;
 mod refusals;
 
-pub use linking::linking_line;
-pub use numbers::{byte, integer, number};
-pub use parts::split_once;
-pub use refusals::{refused_file_line, refused_line};
+pub use linking::{Linking, linking_line, partner};
+pub use numbers::{byte, digits, integer, number, pair};
+pub use parts::{first_line, split_once};
+pub use refusals::{RefusedCall, RefusedFile, refused_file_line, refused_line};
+
+#[cfg(test)]
+mod tests;

@@ -1,14 +1,22 @@
-// The parts of a line.
+//! The parts of a line, and the lines of a text.
 ghost use Rattle.text.specs.Reads.{SplitsAt};
+ghost use Rattle.text.specs.Texts.{FirstLine};
 
-// What stands before and after the first byte `mark`; nothing where there is none.
+/// What stands before and after the first byte `mark`; `None` where there is none.
 pub fn split_once(bytes: &[u8], mark: u8) -> Option<(&[u8], &[u8])>
     ensures { SplitsAt mark bytes.now result }
 {
-    for (i, byte) in bytes.iter().enumerate() {
-        if *byte == mark {
-            return Some((&bytes[0..i], &bytes[i + 1..]));
-        }
+    let end = bytes.iter().position(|byte| *byte == mark)?;
+    Some((&bytes[..end], &bytes[end + 1..]))
+}
+
+/// The first line of a text without its line feed, and what follows it; `None` where the text is empty.
+/// The last line may lack its end.
+pub fn first_line(text: &[u8]) -> Option<(&[u8], &[u8])>
+    ensures { FirstLine text.now result }
+{
+    if text.is_empty() {
+        return None;
     }
-    None
+    Some(split_once(text, b'\n').unwrap_or((text, &[])))
 }

@@ -5,5 +5,8 @@ use Rattle.codec.specs.Blocks.{block_of, list_in}
 use Rattle.codec.proofs.table.table_of.Given as goal
 
 -- the lists of the doors so far are read
-abbrev pub invariant-loop-door : goal.invariant-loop-door
-invariant-loop-door l = (length (lists l.table) ≡ l.n) × ((e : ℕ) → e < l.door → row (lists l.table) e ≡ list_in (block_of l.bytes (suc e)))
+abbrev pub invariant-loop-i : goal.invariant-loop-i
+invariant-loop-i l = record {
+  count : length (lists l.table) ≡ l.n;
+  read : (e : ℕ) → e < l.i → row (lists l.table) e ≡ list_in (block_of l.bytes (suc e));
+}

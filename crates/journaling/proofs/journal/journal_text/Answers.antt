@@ -2,7 +2,7 @@ use Rattle.std.proofs.Common.{◌≡◌, length, vec_items, string_bytes, sym, a
 use Rattle.std.proofs.lemmas.Result.{IfOk-weaker}
 use Rattle.matching.proofs.Rows.{lawful_facts}
 use Rattle.replay.specs.Law.{Answered, Law}
-use Rattle.surveying.specs.Survey.{lines}
+use Rattle.text.specs.Texts.{lines}
 use Rattle.journaling.specs.Calls.{LineCalls}
 use Rattle.journaling.specs.Journal.{Journal, journal_text}
 use Rattle.journaling.proofs.Runs.{journal_told}

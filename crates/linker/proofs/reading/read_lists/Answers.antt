@@ -1,14 +1,7 @@
-use Rattle.std.proofs.Common.{◌+◌, ◌*◌, set, sym, ap, subst, arith}
+use Rattle.std.proofs.Common.{◌+◌, set, sym, subst, arith}
 use Rattle.linker.specs.Tables.{ReadTo}
-use Rattle.linker.proofs.Written.{row_room, written_more}
+use Rattle.linker.proofs.Written.{written_more}
 use Rattle.linker.proofs.reading.read_lists.Goals as goal
-
-pub read_list-requires : goal.read_list-requires
-read_list-requires g c =
-    let n = c.count-count.result in
-    let e = ap (λ k. k * k) c.count-count.ensures in
-    let room = row_room n c.loop-x.x (omega arith) in
-    record { lists_room = omega (arith, e, room, c.requires.lists_room, c.count-count.ensures); places_room = omega (arith, e, room, c.requires.places_room, c.count-count.ensures) }
 
 pub loop-x-preserved : goal.loop-x-preserved
 loop-x-preserved g c =

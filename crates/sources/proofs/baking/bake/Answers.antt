@@ -1,9 +1,9 @@
-use Rattle.std.proofs.Common.{◌≡◌, ◌+◌, ◌-◌, ◌*◌, ◌≤◌, length, take, ap, ◌∙◌, arith}
+use Rattle.std.proofs.Common.{◌≡◌, ◌+◌, ◌*◌, ◌≤◌, length, take, ap, ◌∙◌, arith}
 use borrow.Rule.Slice.PartMut.{same_len_mid}
-use native.Mathlib.Numerals.{unary_clauses}
 use Rattle.std.proofs.lemmas.List.{length-take, length-drop, length-take-le}
 use Rattle.codec.proofs.BakeLoop.{written_fits, bake_none, bake_more, bake_all}
 use Rattle.matching.proofs.Rows.{lawful_facts}
+use Rattle.sources.proofs.Asked.{row_short}
 use Rattle.sources.proofs.baking.bake.Goals as goal
 
 pub overflow_add-result : goal.overflow_add-result
@@ -20,12 +20,13 @@ loop-door-init g c =
 
 pub loop-door-preserved : goal.loop-door-preserved
 loop-door-preserved g c =
-    let short : length (take (c.read_list-length.result - 0) c.read_list-length.new.out) ≤ 255 = simp length-take (omega (arith, c.read_list-length.ensures.fits)) in
+    let ls = g.S.Source.lists c.args.source.now in
+    let list = c.list_of-list.result.now in
+    let few : length list ≤ 96 = omega (arith, ap length c.list_of-list.ensures, row_short ls c.loop-door.door (g.met.S.Source.sound c.args.source.now)) in
     let room : 512 * (c.from-in-loop-door.result + 1) + 512 ≤ length c.loop-door.out = omega (arith, c.loop-door.invariant.0, c.from-in-loop-door.ensures, c.count-count.ensures) in (
       same_len_mid _ _ c.loop-door.out c.write_row.new.block c.write_row.auto.block ∙ c.loop-door.invariant.0,
-      bake_more c.loop-door.door _ _ (g.S.Source.lists c.args.source.now) (take (c.read_list-length.result - 0) c.read_list-length.new.out) c.loop-door.out c.write_row.new.block
-          (ap (λ k. 512 * (k + 1)) c.from-in-loop-door.ensures) (omega arith) (omega (arith, c.count-count.ensures)) (simp unary_clauses c.read_list-length.ensures.read) (omega arith)
-          (written_fits _ _ _ c.write_row.result c.write_row.ensures (simp (length-take, length-drop) (omega arith), short)) c.loop-door.invariant.1,
+      bake_more c.loop-door.door _ _ ls list c.loop-door.out c.write_row.new.block (ap (λ k. 512 * (k + 1)) c.from-in-loop-door.ensures) (omega arith) (omega (arith, c.count-count.ensures)) c.list_of-list.ensures (omega arith)
+          (written_fits _ _ _ c.write_row.result c.write_row.ensures (simp (length-take, length-drop) (omega arith), omega arith)) c.loop-door.invariant.1,
     )
 
 pub returns : goal.returns

@@ -1,5 +1,4 @@
-use Rattle.std.proofs.Common.{◌-◌, take, sym, subst, arith}
-use native.Mathlib.Numerals.{unary_clauses}
+use Rattle.std.proofs.Common.{sym, subst, arith}
 use Rattle.lists.specs.Tables.{lists}
 use Rattle.matching.proofs.Rows.{lawful_facts}
 use Rattle.sources.proofs.Asked.{CopiedTo, copied_none, copied_put, copied_all}
@@ -16,8 +15,8 @@ pub loop-door-preserved : goal.loop-door-preserved
 loop-door-preserved g c =
     let s = c.args.source.now in
     let ls = g.S.Source.lists s in
-    copied_put ls (lists c.loop-door.table) (lists c.put.new.self) c.loop-door.door (take (c.read_list-length.result - 0) c.read_list-length.new.out) c.put.result (g.met.S.Source.sound s) c.loop-door.invariant
-    (omega (arith, c.count-count.ensures)) (simp unary_clauses c.read_list-length.ensures.read) c.put.ensures.answer c.put.ensures.after
+    copied_put ls (lists c.loop-door.table) (lists c.put.new.self) c.loop-door.door c.list_of.result.now c.put.result (g.met.S.Source.sound s) c.loop-door.invariant
+    (omega (arith, c.count-count.ensures)) c.list_of.ensures c.put.ensures.answer c.put.ensures.after
 
 pub returns : goal.returns
 returns g c =

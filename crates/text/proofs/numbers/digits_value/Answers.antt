@@ -2,10 +2,6 @@ use Rattle.std.proofs.Common.{sym, arith}
 use Rattle.text.proofs.Numerals.{read_all, read_more, read_other, read_large}
 use Rattle.text.proofs.numbers.digits_value.Goals as goal
 
-pub returns-then-not-is_ascii_digit : goal.returns-then-not-is_ascii_digit
-returns-then-not-is_ascii_digit c =
-    read_other c.args.digits.now c.loop-digit.digit-index c.loop-digit.value c.loop-digit.invariant (omega arith) (sym c.if-not-is_ascii_digit.ensures.value)
-
 pub returns-in_err-checked_mul : goal.returns-in_err-checked_mul
 returns-in_err-checked_mul c =
     rw c.from_residual.ensures (read_large c.args.digits.now c.loop-digit.digit-index c.loop-digit.value c.loop-digit.invariant (omega arith) (omega (arith, c.in_err-checked_mul.ensures)))
@@ -14,11 +10,3 @@ pub returns-in_err-value : goal.returns-in_err-value
 returns-in_err-value c =
     rw c.from_residual-in_err-value.ensures (read_large c.args.digits.now c.loop-digit.digit-index c.loop-digit.value c.loop-digit.invariant (omega arith)
     (omega (arith, c.in_ok-checked_mul.ensures, c.in_err-value.ensures)))
-
-pub loop-digit-preserved : goal.loop-digit-preserved
-loop-digit-preserved c =
-    read_more c.args.digits.now c.loop-digit.digit-index c.loop-digit.value c.loop-digit.invariant (omega arith) c.in_ok-value.value (sym c.if-not-is_ascii_digit.ensures.value)
-    (omega (arith, c.in_ok-checked_mul.ensures, c.in_ok-value.ensures)) (omega (arith, c.in_ok-value.ensures))
-
-pub returns : goal.returns
-returns c = read_all c.args.digits.now c.loop-digit.digit-index c.loop-digit.value c.loop-digit.invariant (omega arith)

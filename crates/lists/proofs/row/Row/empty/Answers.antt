@@ -1,6 +1,5 @@
-use Rattle.std.proofs.Common.{[], refl, arith}
-use Rattle.lists.proofs.Filling.{row_none}
+use Rattle.lists.proofs.Filling.{empty_right}
 use Rattle.lists.proofs.row.Row.empty.Goals as goal
 
-pub invariant_of-result : goal.invariant_of-result
-invariant_of-result c = record { short = omega arith; whole = refl; all = refl; right = row_none [] }
+pub invariant_of-result-clause-right : goal.invariant_of-result-clause-right
+invariant_of-result-clause-right c = rw c.new.ensures empty_right

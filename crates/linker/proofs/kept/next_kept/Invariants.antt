@@ -1,7 +1,0 @@
-use Rattle.std.proofs.Common.{ℕ, ◌≤◌}
-use Rattle.linker.specs.Holders.{ranks, Still}
-use Rattle.linker.specs.Meanings.{lists_in}
-use Rattle.linker.proofs.kept.next_kept.Given as goal
-
-abbrev pub invariant-loop-k : goal.invariant-loop-k
-invariant-loop-k l = (y : ℕ) → Still (lists_in l.tables) l.keep l.x y → l.start ≤ ranks (lists_in l.tables) l.x y → l.k ≤ ranks (lists_in l.tables) l.x y

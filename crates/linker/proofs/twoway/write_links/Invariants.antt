@@ -1,5 +1,0 @@
-use Rattle.linker.specs.Links.{WritesTo}
-use Rattle.linker.proofs.twoway.write_links.Given as goal
-
-abbrev pub invariant-loop-x : goal.invariant-loop-x
-invariant-loop-x l = WritesTo l.x l.holder l.out

@@ -1,6 +1,0 @@
-use Rattle.matching.specs.Lists.{row}
-use Rattle.sources.proofs.Asked.{Read}
-use Rattle.sources.proofs.reading.read_list.Given as goal
-
-abbrev pub invariant-loop-other : goal.invariant-loop-other
-invariant-loop-other g l = Read (row (g.S.Source.lists l.source) l.door) l.out l.other
