@@ -2,27 +2,24 @@
 
 #![tactic(auto)]
 
-use anyhow::{Context, Result};
-use std::fs;
 use std::io::Read;
+use std::{fs, io};
 
 // The level file, in the current folder.
 const LEVEL: &str = "level.door";
 
-fn main(rt: HostRuntime) -> Result<()> {
+fn main(rt: HostRuntime) -> io::Result<()> {
     let heap = rt.alloc();
     let mut text = Vec::new(heap);
-    rt.stdin()
-        .read_to_end(&mut text)
-        .context("reading the survey")?;
+    rt.stdin().read_to_end(&mut text)?;
     match surveying::rank_survey(heap, &text) {
         Ok(table) => {
-            let file = surveying::level_file(heap, &table).context("baking the level")?;
-            fs::write(&rt, LEVEL, &file).context("writing the level file")?;
-            let back = fs::read(&rt, LEVEL).context("reading the level file back")?;
-            let text = surveying::summary(heap, &table, &back).context("comparing the lists")?;
-            print!(rt; "{text}").context("writing the summary")
+            let file = surveying::level_file(heap, &table)?;
+            fs::write(&rt, LEVEL, &file)?;
+            let back = fs::read(&rt, LEVEL)?;
+            let text = surveying::summary(heap, &table, &back)?;
+            print!(rt; "{text}")
         }
-        Err(error) => println!(rt; "{error}").context("writing what is wrong"),
+        Err(error) => println!(rt; "{error}"),
     }
 }

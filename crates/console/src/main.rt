@@ -2,38 +2,60 @@
 
 #![tactic(auto)]
 
-use anyhow::{Context, Result};
-use commands::{LineBuffer, reply};
+use commands::{LineBuffer, answer};
 use level::Level;
-use std::io::{BufReader, Read};
+use std::io;
+use std::io::Read;
 use text::RefusedFile;
 
+// As much input as is taken at once.
+const CHUNK: usize = 4096;
+
 // Answers the line that came, and begins the next.
-fn answer(rt: &HostRuntime, level: &mut Level, line: &mut LineBuffer) -> Result<()> {
-    let reply = reply(rt.alloc(), level, line.line()).context("answering a line")?;
+fn reply(rt: &HostRuntime, level: &mut Level, line: &mut LineBuffer) -> io::Result<()> {
+    let text = answer(rt.alloc(), level, line.line())?;
     line.clear();
-    println!(rt; "{reply}").context("writing an answer")
+    println!(rt; "{text}")
 }
 
-// Answers each line as it comes. The last may lack its end.
-fn converse(rt: &HostRuntime, level: &mut Level) -> Result<()> {
-    let input = BufReader::new(rt.alloc(), rt.stdin()).context("reading commands")?;
-    let mut line = LineBuffer::new();
-    for byte in input.bytes() {
-        if line.feed(byte.context("reading commands")?) {
-            answer(rt, level, &mut line)?;
+// Takes the bytes that came, and answers each line that they end.
+fn hear(
+    rt: &HostRuntime,
+    level: &mut Level,
+    line: &mut LineBuffer,
+    bytes: &[u8],
+) -> io::Result<()> {
+    for &byte in bytes {
+        if line.feed(byte) {
+            reply(rt, level, line)?;
         }
-    }
-    if !line.is_empty() {
-        answer(rt, level, &mut line)?;
     }
     Ok(())
 }
 
-fn main(rt: HostRuntime) -> Result<()> {
-    let file = levels::read_level(&rt).context("reading the level file")?;
+// Answers each line as it comes. The last may lack its end.
+// stays: a chunk without heap: the `bytes` of a buffered reader were tried, took several times as long a byte, and 8 KB before the first line
+fn converse(rt: &HostRuntime, level: &mut Level) -> io::Result<()> {
+    let mut line = LineBuffer::new();
+    let mut input = rt.stdin();
+    let mut chunk = [0; CHUNK];
+    for _ in 0..u64::MAX {
+        let count = input.read(&mut chunk)?;
+        if count == 0 {
+            break;
+        }
+        hear(rt, level, &mut line, &chunk[..count])?;
+    }
+    if line.is_empty() {
+        return Ok(());
+    }
+    reply(rt, level, &mut line)
+}
+
+fn main(rt: HostRuntime) -> io::Result<()> {
+    let file = levels::read_level(&rt)?;
     match codec::read(&file) {
         Ok(table) => converse(&rt, &mut Level::new(&table)),
-        Err(fault) => println!(rt; "{}", RefusedFile(fault)).context("writing the refusal"),
+        Err(fault) => println!(rt; "{}", RefusedFile(fault)),
     }
 }

@@ -2,16 +2,14 @@
 
 #![tactic(auto)]
 
-use anyhow::{Context, Result};
 use journaling::file_journal;
+use std::io;
 use std::io::Read;
 
-fn main(rt: HostRuntime) -> Result<()> {
-    let file = levels::read_level(&rt).context("reading the level file")?;
+fn main(rt: HostRuntime) -> io::Result<()> {
+    let file = levels::read_level(&rt)?;
     let mut input = Vec::new(rt.alloc());
-    rt.stdin()
-        .read_to_end(&mut input)
-        .context("reading the calls")?;
-    let text = file_journal(rt.alloc(), &file, &input).context("making the calls")?;
-    print!(rt; "{text}").context("writing the journal")
+    rt.stdin().read_to_end(&mut input)?;
+    let text = file_journal(rt.alloc(), &file, &input)?;
+    print!(rt; "{text}")
 }

@@ -2,7 +2,6 @@
 
 #![tactic(auto)]
 
-use anyhow::{Context, Result};
 use oneway_text::one_way_file;
 use std::io;
 use std::io::{BufRead, Lock, Read};
@@ -20,10 +19,10 @@ fn read_line(rt: &HostRuntime) -> io::Result<Vec<u8>> {
     Ok(line)
 }
 
-fn main(rt: HostRuntime) -> Result<()> {
-    let file = levels::read_level(&rt).context("reading the level file")?;
-    let line = read_line(&rt).context("reading the sides")?;
+fn main(rt: HostRuntime) -> io::Result<()> {
+    let file = levels::read_level(&rt)?;
+    let line = read_line(&rt)?;
     let sides = line.strip_suffix(b"\n").unwrap_or(&line);
-    let text = one_way_file(rt.alloc(), &file, sides).context("linking the doors")?;
-    println!(rt; "{text}").context("writing the linking")
+    let text = one_way_file(rt.alloc(), &file, sides)?;
+    println!(rt; "{text}")
 }

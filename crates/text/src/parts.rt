@@ -2,11 +2,13 @@
 ghost use Rattle.text.specs.Reads.{SplitsAt};
 ghost use Rattle.text.specs.Texts.{FirstLine};
 
+use memchr::memchr;
+
 /// What stands before and after the first byte `mark`; `None` where there is none.
 pub fn split_once(bytes: &[u8], mark: u8) -> Option<(&[u8], &[u8])>
     ensures { SplitsAt mark bytes.now result }
 {
-    let end = bytes.iter().position(|byte| *byte == mark)?;
+    let end = memchr(mark, bytes)?;
     Some((&bytes[..end], &bytes[end + 1..]))
 }
 

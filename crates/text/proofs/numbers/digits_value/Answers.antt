@@ -1,5 +1,5 @@
-use Rattle.std.proofs.Common.{sym, arith}
-use Rattle.text.proofs.Numerals.{read_all, read_more, read_other, read_large}
+use Rattle.std.proofs.Common.{arith}
+use Rattle.text.proofs.Numerals.{read_large}
 use Rattle.text.proofs.numbers.digits_value.Goals as goal
 
 pub returns-in_err-checked_mul : goal.returns-in_err-checked_mul
